@@ -6,7 +6,7 @@ use Rattle.scim_audit.specs.declared.refusals.Refusal.TheVariants.{BadHead, TooL
 use Rattle.scim_audit.specs.declared.allowed_methods.Methods.TheVariants.{Collection}
 use Rattle.scim_audit.specs.Methods.{allow_text}
 
--- the number of a refusal, in the order of the checks
+-- the number of a refusal in the audit; the server checks for refusals in this order
 abbrev pub number_of : Refusal → ℕ
 number_of BadHead = 1
 number_of TooLarge = 2
@@ -58,7 +58,7 @@ status_of Widens = 403
 status_of IdInUse = 503
 status_of Store = 500
 
--- the detail error keyword (`scimType`), if the standard defines one (RFC 7644 table 9)
+-- the detail error keyword (`scimType`), or None if RFC 7644 table 9 defines none for this error
 abbrev pub scim_type_of : Refusal → Option (List ℕ)
 scim_type_of Syntax = Some (codes "invalidSyntax")
 scim_type_of Filter = Some (codes "invalidFilter")
@@ -111,8 +111,8 @@ error_message status scim_type detail =
 abbrev pub body_of : Refusal → List ℕ
 body_of refusal = error_message (status_of refusal) (scim_type_of refusal) (detail_of refusal)
 
--- whether the connection is closed after the reply, because the end of the message is unknown (RFC 9112
--- section 9.6)
+-- whether the server closes the connection after the reply, because it doesn't read the rest of the request
+-- (RFC 9112 section 9.6)
 abbrev pub closes : Refusal → Bool
 closes BadHead = true
 closes TooLarge = true
@@ -125,7 +125,8 @@ abbrev pub asks_for_token : Refusal → Bool
 asks_for_token NoToken = true
 asks_for_token _ = false
 
--- the text of the header `Allow`, if the refusal has one (RFC 9110 section 15.5.6)
+-- the text of the header `Allow` in the reply, or None if the reply has no such header (RFC 9110 section
+-- 15.5.6)
 abbrev pub allow_of : Refusal → Option (List ℕ)
 allow_of (BadMethod methods) = Some (allow_text methods)
 allow_of _ = None

@@ -1,4 +1,4 @@
--- Rows of the audit, and their lines of text.
+-- Audit rows, and the line of text for each row.
 use Rattle.std.specs.Prelude.{ℕ, List, [], ◌∷◌, ◌++◌, codes, decimal, Option, None, Some, option_map, unwrap_or}
 use Rattle.std.specs.List.{join_with_byte}
 use Rattle.scim_schema.specs.declared.Attribute.{Attribute}
@@ -25,7 +25,7 @@ decided_name Hidden = codes "Hidden"
 decided_name Absent = codes "Absent"
 decided_name Refused = codes "Refused"
 
--- the word for a value that a row doesn't have
+-- the word for a missing value in an audit line
 abbrev pub no_word : List ℕ
 no_word = codes "-"
 
@@ -58,12 +58,12 @@ leaf_word leaf = unwrap_or (option_map leaf_path leaf) no_word
 abbrev pub refusal_word : Option Refusal → List ℕ
 refusal_word refusal = unwrap_or (option_map refusal_mark refusal) no_word
 
--- the words of the line of a row with this number
+-- the words of the audit line for a row with this number
 abbrev pub row_words : ℕ → AuditRow → List (List ℕ)
 row_words number row =
     decimal number ∷ moment_text row.moment ∷ row.client ∷ op_name row.op ∷ kind_name row.kind ∷ id_word row.id
     ∷ decided_name row.decided ∷ rule_word row.rule ∷ leaf_word row.leaf ∷ refusal_word row.refusal ∷ []
 
--- the line of a row with this number: its words, with a space between them
+-- the audit line for a row with this number: the words of `row_words`, separated by spaces
 unfoldable pub row_line : ℕ → AuditRow → List ℕ
 row_line number row = join_with_byte 32 (row_words number row)

@@ -1,4 +1,4 @@
-//! Rows of the audit, and their lines of text.
+//! Audit rows, and the line of text for each row.
 ghost use Rattle.std.specs.Prelude.{◌≡◌, IfOk, string_bytes};
 ghost use Rattle.scim_audit.specs.Rows as spec;
 
@@ -38,7 +38,7 @@ impl Decided {
         ]
     }
 
-    /// The word for the decision in a line of the audit.
+    /// The word for the decision in an audit line, such as `Allow`.
     pub fn name(self) -> &'static str
         ensures { result.now ≡ spec.decided_name self }
     {
@@ -52,7 +52,7 @@ impl Decided {
     }
 }
 
-/// The audit record of a request from a client. The number of a row is its position in the audit, from 1.
+/// The audit record of a client's request. Audit rows are numbered from 1 in the order of the audit.
 pub struct AuditRow {
     /// When the request was received.
     pub moment: Moment,
@@ -66,11 +66,11 @@ pub struct AuditRow {
     pub id: Option<Id>,
     /// The decision.
     pub decided: Decided,
-    /// The number of the rule that decided, or 0 if no rule applied. `None` if the decision wasn't
-    /// made by a single rule.
+    /// The number of the rule that made the decision, or 0 if no rule applied. `None` if no single rule
+    /// made the decision.
     pub rule: Option<u32>,
     /// The leaf at which the rule denied the request, or to which the change would have widened
-    /// access. `None` if the rule allowed the request, or the decision wasn't made by a single rule.
+    /// access. `None` if the rule allowed the request, or no single rule made the decision.
     pub leaf: Option<Leaf>,
     /// The refusal in the reply; `None` if the request was carried out.
     pub refusal: Option<Refusal>,
@@ -112,7 +112,7 @@ impl AuditRow {
 }
 
 /// Returns the path of a leaf as in policies: `userName`, `emails.value` (RFC 7644 section 3.10).
-/// It has no URN, even for an attribute of an extension.
+/// The path has no URN, even for an attribute of an extension.
 pub fn leaf_path(alloc: Global, leaf: Leaf) -> Result<String, NoMemory>
     ensures { IfOk result (λ text. string_bytes text ≡ spec.leaf_path leaf) }
 {
@@ -126,7 +126,7 @@ pub fn leaf_path(alloc: Global, leaf: Leaf) -> Result<String, NoMemory>
     }
 }
 
-/// Returns the word for a value that a row doesn't have.
+/// Returns `-`, the word for a missing value in an audit line.
 fn no_word(alloc: Global) -> Result<String, NoMemory>
     ensures { IfOk result (λ text. string_bytes text ≡ spec.no_word) }
 {
@@ -176,9 +176,9 @@ fn id_word(buffer: &mut [u8; Id::TEXT_LENGTH], id: Option<Id>) -> &str
     }
 }
 
-/// Returns the line of a row, without a line feed.
+/// Returns the line of text for an audit row, without a line feed.
 ///
-/// It has ten words with one space between them: number, moment, client, operation, kind, id,
+/// The line has ten words with one space between them: number, moment, client, operation, kind, id,
 /// decision, rule, leaf, and `F` with the number of the refusal. The word is `-` for a value that
 /// the row doesn't have.
 #[tactic(auto, unfolding(crate::specs::Rows::row_line))]

@@ -1,5 +1,5 @@
-//! Refusals with their error messages (RFC 7644 section 3.12), and the rows of the audit with their
-//! lines.
+//! Refusals and their error messages (RFC 7644 section 3.12), and audit rows and their lines of
+//! text.
 #![tactic(auto)]
 
 mod allowed_methods;

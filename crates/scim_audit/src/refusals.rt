@@ -166,7 +166,7 @@ impl Refusal {
         }
     }
 
-    /// The detail error keyword (`scimType`), if the standard defines one (RFC 7644 table 9).
+    /// The detail error keyword (`scimType`), or `None` if RFC 7644 table 9 defines none for this error.
     pub fn scim_type(self) -> Option<&'static str>
         ensures { option_copied result ≡ spec.scim_type_of self }
     {
@@ -219,7 +219,8 @@ impl Refusal {
         }
     }
 
-    /// Whether the connection is closed after the reply, because the end of the message is unknown.
+    /// Whether the server closes the connection after the reply, because it doesn't read the rest of the
+    /// request.
     pub fn closes(self) -> bool
         ensures { result ≡ spec.closes self }
     {
@@ -237,7 +238,8 @@ impl Refusal {
         self == Refusal::NoToken
     }
 
-    /// The text of the header `Allow`, if the refusal has one (RFC 9110 section 10.2.1).
+    /// The text of the header `Allow` in the reply, or `None` if the reply has no such header (RFC 9110
+    /// section 10.2.1).
     pub fn allow(self) -> Option<&'static str>
         ensures { option_copied result ≡ spec.allow_of self }
     {

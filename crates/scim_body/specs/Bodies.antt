@@ -30,7 +30,7 @@ use Rattle.scim_body.specs.BodyNames.{body_clashes}
 use Rattle.scim_body.specs.BodyValues.{collected, if_given, given_named, given_atom, fields_of, values_of}
 use Rattle.scim_body.specs.Drafts.{Draft, is_empty, lacks_required}
 
--- a unit that a body gives a value for, with the values to store
+-- a unit for which a body has a value, with the values to store
 pub record Given : Type 0 where
   pub unit : AttributeUnit
   pub values : List Row
@@ -46,11 +46,12 @@ abbrev pub named_given : Kind → Attribute → Atom → Option (List Given)
 named_given kind a atom =
     if sameb the_attribute a UserName && is_empty atom then None else Some (field_given kind (record { leaf = simple a; atom = atom }) ∷ [])
 
--- the unit read from a value of a simple attribute; None if it is refused
+-- the unit read from a value of a simple attribute; None if the value is refused
 abbrev pub simple_given : Kind → Attribute → Data → Option (List Given)
 simple_given kind a d = option_and_then (named_given kind a) (given_atom (characteristics_of kind (simple a)).attribute_type d)
 
--- the units read from a value of a complex attribute, one for each sub-attribute; None if it is refused
+-- the units read from a value of a complex attribute, one for each of its fields; None if the value is
+-- refused
 abbrev pub complex_given : Kind → Attribute → Data → Option (List Given)
 complex_given kind a d = option_map (map (field_given kind)) (fields_of kind a d)
 
@@ -59,13 +60,14 @@ abbrev pub whole_given : Attribute → List Row → List Given
 whole_given a [] = []
 whole_given a (r ∷ rs) = record { unit = whole a; values = r ∷ rs } ∷ []
 
--- the units read from a value of an attribute, by the attribute's shape; None if it is refused
+-- the units read from a value of an attribute with this shape; None if the value is refused
 abbrev pub shaped_given : Kind → Attribute → JsonShape → Data → Option (List Given)
 shaped_given kind a Simple d = simple_given kind a d
 shaped_given kind a Complex d = complex_given kind a d
 shaped_given kind a MultiValued d = option_map (whole_given a) (values_of kind a d)
 
--- the units of an attribute in an object; a readOnly attribute is ignored (RFC 7643 section 2.2)
+-- the units of an attribute for which an object has values; no units if the attribute is readOnly (RFC 7643
+-- section 2.2), None if a value is refused
 abbrev pub attribute_given : Kind → Attribute → Members → Option (List Given)
 attribute_given kind a ms =
     if is_read_only kind (simple a) then Some [] else if_given (shaped_given kind a (shape_of a)) (given_named (attribute_name a) ms)
@@ -81,15 +83,16 @@ abbrev pub schema_members : Option Schema → Members → Option Members
 schema_members None ms = Some ms
 schema_members (Some s) ms = extension_members (given_named (urn s) ms)
 
--- the units of an attribute in a body; None if a value is refused
+-- the units of an attribute for which a body has values; None if a value is refused
 abbrev pub given_of : Kind → Members → Attribute → Option (List Given)
 given_of kind ms a = option_and_then (attribute_given kind a) (schema_members (extension_of a) ms)
 
--- all units in a body, in the order of the attribute table; None if a value is refused
+-- the units for which a body has values, with these values, in the order of the attribute table; readOnly
+-- attributes are ignored; None if a value is refused
 unfoldable pub all_given : Kind → Members → Option (List Given)
 all_given kind ms = collected (given_of kind ms) (attributes kind)
 
--- the outcome of reading a body: it is malformed, it has a wrong value, or it is a draft
+-- the outcome of reading a body: the body is malformed, it has a wrong value, or it is read into a draft
 pub data Body : Type 0 where
   malformed : Body
   wrong : Body
@@ -99,7 +102,7 @@ pub data Body : Type 0 where
 abbrev pub draft_of : Kind → UseFor → List Given → Draft
 draft_of kind use_for gs = record { kind = kind; use_for = use_for; given = map (λ g. g.unit) gs; rows = flat_map (λ g. g.values) gs }
 
--- the outcome for a draft, which is wrong if it is for Creating and lacks a required attribute
+-- the outcome for a draft: wrong if the draft is for Creating and lacks a required attribute, else the draft
 abbrev pub judged : UseFor → Draft → Body
 judged Creating d = if lacks_required d.kind d.rows then wrong else drafted d
 judged Replacing d = drafted d
@@ -109,16 +112,17 @@ abbrev pub body_with : Kind → UseFor → Option (List Given) → Body
 body_with kind use_for None = wrong
 body_with kind use_for (Some gs) = judged use_for (draft_of kind use_for gs)
 
--- the outcome for the members of a body, which is None if it isn't an object; clashing keys are checked first
+-- the outcome for a body with these members, or for None if the body isn't an object; clashing keys are
+-- found before wrong values
 abbrev pub body_in : Kind → UseFor → Option Members → Body
 body_in kind use_for None = malformed
 body_in kind use_for (Some ms) = if body_clashes kind ms then malformed else body_with kind use_for (all_given kind ms)
 
--- the outcome for a body with this JSON value, which is None if the text isn't JSON
+-- the outcome for a body with this JSON value, or for None if the body isn't JSON
 abbrev pub body_of : Kind → UseFor → Option Data → Body
 body_of kind use_for d = body_in kind use_for (option_and_then as_object d)
 
--- the result of reading a body is the draft, or the fault, specified for its JSON value
+-- the result of reading a body with this JSON value is the draft or the fault that `body_of` specifies
 abbrev pub GivesDraft : Kind → UseFor → Option Data → Result Draft BodyFault → Type 0
 GivesDraft kind use_for d (Ok draft) = body_of kind use_for d ≡ drafted draft
 GivesDraft kind use_for d (Err Syntax) = body_of kind use_for d ≡ malformed

@@ -68,14 +68,15 @@ values_clash a d = if is_multi_valued a then list_any (value_clashes a) (listed 
 unfoldable pub attribute_clashes : Kind → Members → Attribute → Bool
 attribute_clashes kind ms a = is_twice (attribute_name a) ms || (not (is_read_only kind (simple a)) && is_there_and (values_clash a) (value_named (attribute_name a) ms))
 
--- whether keys clash for any attribute of an extension, or of the core schema for None
+-- whether keys clash for any attribute of a schema; None means the core schema
 abbrev pub schema_clashes : Kind → Option Schema → Members → Bool
 schema_clashes kind s ms = list_any (λ a. option_eq (sameb the_schema) (extension_of a) s && attribute_clashes kind ms a) (attributes kind)
 
--- whether two keys are the extension's URN, or keys clash in its object (RFC 7643 section 3.3)
+-- whether two keys are the extension's URN, or keys clash in the extension's object (RFC 7643 section 3.3)
 abbrev pub extension_clashes : Kind → Members → Schema → Bool
 extension_clashes kind ms s = is_twice (urn s) ms || is_there_and (λ d. is_there_and (schema_clashes kind (Some s)) (as_object d)) (value_named (urn s) ms)
 
--- whether two keys clash anywhere in a body
+-- whether two keys clash in a body: two keys name one attribute, one extension, or one sub-attribute in a
+-- value of an attribute that isn't readOnly
 unfoldable pub body_clashes : Kind → Members → Bool
 body_clashes kind ms = schema_clashes kind None ms || list_any (extension_clashes kind ms) (extensions kind)

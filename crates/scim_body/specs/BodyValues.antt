@@ -63,7 +63,7 @@ if_given read (Some d) = read d
 abbrev pub truth_of_text : List ℕ → Option Bool
 truth_of_text s = if is_same_name s (codes "true") then Some true else (if is_same_name s (codes "false") then Some false else None)
 
--- the boolean of a value, which may also be a text that names it
+-- the boolean that a value is, or that it names as a text; None for any other value
 abbrev pub truth_of : Data → Option Bool
 truth_of (boolean b) = Some b
 truth_of (string s) = truth_of_text s
@@ -93,12 +93,14 @@ abbrev pub field_with : Kind → Attribute → SubAttribute → Data → Option 
 field_with kind a b d =
     option_map (λ atom. record { leaf = leaf_at a b; atom = atom } ∷ []) (given_atom (characteristics_of kind (leaf_at a b)).attribute_type d)
 
--- the field of a sub-attribute in an object, if present; a readOnly one is ignored (RFC 7643 section 2.2)
+-- the field of a sub-attribute, if the object has a value for it; no field if the sub-attribute is readOnly
+-- (RFC 7643 section 2.2), None if the value is refused
 abbrev pub field_in : Kind → Attribute → Members → SubAttribute → Option (List Field)
 field_in kind a ms b =
     if is_read_only kind (leaf_at a b) then Some [] else if_given (field_with kind a b) (given_named (sub_attribute_name b) ms)
 
--- the fields in an object, in the order in which their cells are stored; unknown keys are ignored
+-- the fields in an object, in the order in which their cells are stored; unknown keys are ignored; None if a
+-- value is refused
 abbrev pub fields_in : Kind → Attribute → Members → Option (List Field)
 fields_in kind a ms = collected (field_in kind a ms) (sub_attributes_by_place a)
 
@@ -106,11 +108,12 @@ fields_in kind a ms = collected (field_in kind a ms) (sub_attributes_by_place a)
 abbrev pub has_value : Attribute → Bool
 has_value a = list_any (λ b. sameb the_sub_attribute b sub_attribute.Value) (sub_attributes a)
 
--- the field of a value that isn't an object: its `value`; None if the attribute has no sub-attribute `value`
+-- the field `value`, read from a value that isn't an object; None if the attribute has no sub-attribute
+-- `value`, or if the value is refused
 abbrev pub value_alone : Kind → Attribute → Data → Option (List Field)
 value_alone kind a d = if has_value a then field_with kind a sub_attribute.Value d else None
 
--- the fields of a value of a complex attribute with these members, or None if the value isn't an object
+-- the fields of a value of a complex attribute; the members are None if the value isn't an object
 abbrev pub fields_with : Kind → Attribute → Data → Option Members → Option (List Field)
 fields_with kind a d None = value_alone kind a d
 fields_with kind a d (Some ms) = fields_in kind a ms

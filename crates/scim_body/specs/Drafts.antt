@@ -19,8 +19,8 @@ use Rattle.scim_value.specs.Resource.{IsShort, MembersHaveValues, HasAtMostOnePr
 use Rattle.scim_body.specs.declared.drafts.UseFor.{UseFor}
 use Rattle.scim_body.specs.declared.drafts.UseFor.TheVariants.{Creating}
 
--- a draft: its kind, the purpose of the body, the units given, and the rows of the values to store, both in
--- order of unit
+-- a draft: the kind of the resource, the purpose of the body, the units for which the body has a value, and
+-- the rows to store
 pub record Draft : Type 0 where
   pub kind : Kind
   pub use_for : UseFor
@@ -44,16 +44,16 @@ is_missing kind rs a = (attribute_characteristics kind a).required && not (list_
 unfoldable pub lacks_required : Kind → List Row → Bool
 lacks_required kind rs = list_any (is_missing kind rs) (attributes kind)
 
--- a field that a body may give and that is stored: neither readOnly nor writeOnly (RFC 7643 section 2.2), a
--- text of at most 65,536 bytes, and no empty `userName` (section 4.1.1)
+-- a field may come from a body and be stored: it is neither readOnly nor writeOnly (RFC 7643 section 2.2),
+-- its text has at most 65,536 bytes, and it isn't an empty `userName` (section 4.1.1)
 pub record MayBeGiven (kind : Kind) (f : Field) : Type 0 where
   pub writable : is_read_only kind f.leaf ≡ false
   pub kept : is_write_only kind f.leaf ≡ false
   pub short : IsShort f.atom
   pub filled : f.leaf ≡ simple UserName → is_empty f.atom ≡ false
 
--- the invariant of a draft: its rows are valid, have only fields that a body may give, and keep the limits of
--- a resource; a draft for Creating has all attributes that the kind requires
+-- the invariant of a draft: its rows are valid, have only fields that a body may set, and are within the
+-- limits of a resource; a draft for Creating has all attributes that the kind requires
 pub record IsDraft (d : Draft) : Type 0 where
   pub sound : AreSound d.kind d.rows
   pub may_be_given : All (λ r. All (MayBeGiven d.kind) r.fields) d.rows

@@ -17,7 +17,8 @@ pub fn is_absent(value: &Tree<'_>) -> bool
     }
 }
 
-/// The value under the key `name`, in any case. `None` if there is none, or if it counts as absent.
+/// The value under the first key that is `name` in any case. `None` if there is no such key, or if the value
+/// counts as absent.
 pub fn given_named<'a, 'b>(members: &'a [Member<'b>], name: &str) -> Option<&'a Tree<'b>>
     ensures { option_map (λ v. view v.now) result
         ≡ values.given_named name.now (members_view members.now) }

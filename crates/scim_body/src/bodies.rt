@@ -1,5 +1,5 @@
-//! Reads bodies that create or replace a resource (RFC 7644 sections 3.3 and 3.5.1): the keys first, then
-//! the values.
+//! Reads bodies that create or replace a resource (RFC 7644 sections 3.3 and 3.5.1). Checks the keys for
+//! clashes before it reads the values.
 ghost use Rattle.std.specs.Prelude.{◌≡◌, ◌++◌, IfOk, OnOk, Some, None, option_map, map};
 ghost use Rattle.std.specs.List.{flat_map};
 ghost use Rattle.serde_json.specs.Read.{read};
@@ -42,7 +42,7 @@ pub enum BodyFault {
     Value,
 }
 
-/// A unit that a body gives a value for, with the values to store.
+/// A unit for which a body has a value, with the values to store.
 ///
 /// A writeOnly unit, such as a password, has no values here, since they aren't stored.
 #[derive(Drop)]
@@ -154,8 +154,8 @@ fn read_attributes(
     Ok(())
 }
 
-/// Appends the units of one attribute for which the body has values, read from the body itself or from the
-/// object of the attribute's extension.
+/// Appends the units of `attribute` for which the body has values. Looks for them in the body itself, or in
+/// the extension's object if the attribute belongs to an extension.
 ///
 /// Fails with `WrongValue` if a value is refused.
 fn read_given(
@@ -201,7 +201,8 @@ fn schema_members<'a, 'b>(
     }
 }
 
-/// Appends the units of `attribute` for which an object has values. Ignores a readOnly attribute.
+/// Appends the units of `attribute` for which an object has values. Appends nothing if `attribute` is
+/// readOnly.
 ///
 /// Fails with `WrongValue` if a value is refused.
 fn read_attribute(
@@ -253,8 +254,8 @@ fn read_shaped(
 /// Reads the units in a value of an attribute (RFC 7643 section 2.3).
 ///
 /// For a simple attribute, returns one unit. For a complex attribute, returns a unit for each sub-attribute
-/// in the value that isn't readOnly. For a multi-valued attribute, returns one unit with all values, or no
-/// unit if there are no values. Doesn't check whether `attribute` itself is readOnly.
+/// in the value that isn't readOnly. For a multi-valued attribute, returns one unit with all values, each
+/// once, or no unit if there are no values. Doesn't check whether `attribute` itself is readOnly.
 ///
 /// Fails with `WrongValue` if a value has the wrong type, a text is over 65,536 bytes, `userName` is empty, a
 /// group member has no `value`, or the attribute has two primary values or more than 10,000 values.
@@ -325,7 +326,7 @@ pub fn field_given(alloc: Global, kind: Kind, field: Field) -> Result<UnitGiven,
     Ok(UnitGiven { unit, values })
 }
 
-/// Appends a unit for each sub-attribute in a value of a complex attribute.
+/// Appends a unit for each sub-attribute in a value of a complex attribute, except readOnly ones.
 ///
 /// Fails with `WrongValue` if the value is refused.
 fn read_complex(

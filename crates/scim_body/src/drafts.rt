@@ -16,9 +16,10 @@ pub enum UseFor {
     Replacing,
 }
 
-/// A resource as read from a body: its kind, the purpose of the body, the units given, and the rows to store.
+/// A resource as read from a body: its kind, the purpose of the body, the units for which the body has a
+/// value, and the rows to store.
 ///
-/// The unit of a value that isn't stored, such as a password, is among the units given, but has no row.
+/// A value that isn't stored, such as a password, has its unit among these units, but no row.
 /// Invariant: the rows are valid values of a resource of the kind, and a draft for `Creating` has all
 /// attributes that the kind requires.
 pub struct Draft {
@@ -56,7 +57,7 @@ impl Model for Draft {
 }
 
 impl Draft {
-    /// Makes a draft, which must satisfy `IsDraft`.
+    /// Makes a draft from its parts. They must satisfy the invariant `IsDraft`.
     pub(crate) fn new(kind: Kind, use_for: UseFor, given: Vec<Unit>, rows: Vec<Row>) -> Draft
         requires { IsDraft (record {
           kind = kind;
@@ -92,7 +93,7 @@ impl Draft {
         self.use_for
     }
 
-    /// The units that the body has a value for, in the order of the attribute table.
+    /// The units for which the body has a value, in the order of the attribute table.
     pub fn given(&self) -> &[Unit]
         ensures { result.now ≡ self.now.given }
     {
@@ -111,7 +112,7 @@ impl Draft {
         false
     }
 
-    /// The values to store of `unit`, in the order given. Empty for a writeOnly unit.
+    /// The values of `unit` to store, in the order of the body. Empty for a writeOnly unit.
     pub fn values(&self, unit: Unit) -> &[Row]
         ensures values { result.now ≡ values unit self.now.rows }
         ensures valid { IsDraft self.now }

@@ -10,7 +10,8 @@ use scim_text::Failed;
 use serde_json::{Number, Value};
 use std::alloc::Global;
 
-/// Reads `text`, which must be a JSON number, as a 64-bit integer if it is one, else as the nearest float.
+/// Reads `text`, which must be a JSON number. Returns a 64-bit integer if the number fits one, else the
+/// nearest float.
 ///
 /// Fails with `NotJson` if the number is too large for a float.
 pub(crate) fn read_number(alloc: Global, text: &str) -> Result<Number, Failed<NotJson>>

@@ -49,8 +49,8 @@ impl<'a> Tree<'a> {
 
 /// Reads the value that begins at the next token, with at most `depth` more levels of nesting.
 ///
-/// Fails with `NotJson` if there is no value, it nests deeper, or it has a number that is too large for a
-/// float.
+/// Fails with `NotJson` if there is no valid value, or if the value nests deeper or has a number that is too
+/// large for a float.
 #[cycle(read_value)]
 fn read_value<'a>(
     alloc: Global,
@@ -142,7 +142,7 @@ fn read_members<'a>(
     Ok(found)
 }
 
-/// Reads the next key, or `None` after the last member.
+/// Reads the next key of an object. `None` if the closing brace follows.
 ///
 /// Fails with `NotJson` if neither a key nor the closing brace follows.
 fn next_key<'a>(reader: &mut Reader<'a>) -> Result<Option<&'a str>, Failed<NotJson>>

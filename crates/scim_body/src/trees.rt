@@ -33,7 +33,7 @@ impl<'a> Tree<'a> {
         }
     }
 
-    /// The integer, if the value is a number that fits a signed 64-bit integer.
+    /// The integer, if the value is one and fits in a signed 64-bit integer.
     pub fn as_i64(&self) -> Option<i64>
         ensures { result ≡ option_and_then as_i64 (as_number (view self.now)) }
     {

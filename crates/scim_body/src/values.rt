@@ -100,9 +100,10 @@ pub fn read_field(
     Ok(Field { leaf, atom })
 }
 
-/// Appends the field of `sub_attribute` that an object has, if any. Ignores a readOnly sub-attribute.
+/// Appends the field of `sub_attribute`, if the object has a value for it. Appends nothing if
+/// `sub_attribute` is readOnly.
 ///
-/// Fails with `WrongValue` if its value has the wrong type or is a text over 65,536 bytes; `fields` is then
+/// Fails with `WrongValue` if the value has the wrong type or is a text over 65,536 bytes; `fields` is then
 /// unchanged.
 fn read_sub_attribute(
     alloc: Global,

@@ -20,7 +20,7 @@ pub record Content : Type 0 where
   pub id : List ℕ
   pub cells : FinMap place_cmp Atom
 
--- a place with its atom
+-- a place and the atom at this place
 abbrev pub Entry : Type 0
 Entry = Place × Atom
 
@@ -28,11 +28,11 @@ Entry = Place × Atom
 abbrev pub place_of : Cell → Place
 place_of c = place_at c.leaf c.position
 
--- a cell as an entry
+-- the entry of a cell
 abbrev pub entry_of : Cell → Entry
 entry_of c = (place_of c, c.atom)
 
--- cells as entries
+-- the entries of a list of cells
 abbrev pub entries_of : List Cell → List Entry
 entries_of cells = map entry_of cells
 

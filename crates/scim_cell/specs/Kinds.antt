@@ -9,6 +9,6 @@ use Rattle.scim_cell.specs.Content.{Content}
 abbrev pub is_of : Kind → Content → Bool
 is_of kind c = sameb the_kind c.kind kind
 
--- the parts of the kind, in the order of the list
+-- the parts in the list that are of the kind, in order
 abbrev pub of_kind : Kind → List Content → List Content
 of_kind kind cs = filter (is_of kind) cs

@@ -41,8 +41,8 @@ leaf_of p = record { attribute = p.attribute; sub_attribute = p.sub_attribute }
 abbrev pub place_at : Leaf → ℕ → Place
 place_at l k = record { attribute = l.attribute; position = k; sub_attribute = l.sub_attribute }
 
--- the sub-attributes of an attribute in order of place, which differs from the table's order for two
--- attributes
+-- the sub-attributes of an attribute in order of place; for `addresses` and `members` this order differs from
+-- the order of `sub_attributes`
 unfoldable pub sub_attributes_by_place : Attribute → List SubAttribute
 sub_attributes_by_place Addresses = Formatted ∷ TypeName ∷ Primary ∷ StreetAddress ∷ Locality ∷ Region ∷ PostalCode ∷ Country ∷ []
 sub_attributes_by_place Members = Value ∷ Reference ∷ Display ∷ TypeName ∷ []

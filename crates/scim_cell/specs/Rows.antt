@@ -1,5 +1,5 @@
 -- Rows: the cells of a part, grouped by value.
--- The definitions of policies, views, searches and changes read a part as its rows.
+-- The specifications of policies, views, searches and changes describe a part by its rows.
 use Rattle.std.specs.Prelude.{◌≡◌, ◌≤◌, ◌<◌, ◌⊎◌, length, Bool, true, false, ◌&&◌, not, eqb, ℕ, zero, suc, ◌+◌, Option, None, Some, List, [], ◌∷◌, ◌++◌, map, filter, All, AllPairs, if◌then◌else◌}
 use Rattle.std.specs.List.{list_any}
 use Rattle.std.specs.Ordering.{is_lt, is_eq, is_gt}
@@ -47,28 +47,30 @@ abbrev pub is_led : Entry → List Entry → Bool
 is_led e [] = false
 is_led e (f ∷ es) = goes_with e.0 f.0
 
--- adds a cell in front of rows: to the first row if the flag is true and there is one, otherwise as a new row
+-- adds a cell at the front: as the first field of the first row if the flag is true and there is a row,
+-- otherwise as a new first row
 abbrev pub led : Bool → Entry → List Row → List Row
 led true e (r ∷ rs) = record { unit = unit_at e.0; fields = field_of e ∷ r.fields } ∷ rs
 led _ e rs = record { unit = unit_at e.0; fields = field_of e ∷ [] } ∷ rs
 
--- the rows of cells that are in order of place
+-- groups cells, which are in order of place, into rows
 abbrev pub rows_of : List Entry → List Row
 rows_of [] = []
 rows_of (e ∷ es) = led (is_led e es) e (rows_of es)
 
--- the rows of a part, in order of unit; the position of a cell is the index of its row among the rows of
--- its unit
+-- the rows of a part, in order of unit; the position of a cell is the index of its row among all rows of the
+-- same unit
 abbrev pub rows : Content → List Row
 rows c = rows_of (entries c.cells)
 
--- the position of a row of a unit, given the unit and the position of the previous row, if any
+-- the position of a row of the unit `u`, given the unit and the position of the previous row, or None if the
+-- row is the first
 abbrev pub next_position : Option (AttributeUnit × ℕ) → AttributeUnit → ℕ
 next_position None u = 0
 next_position (Some last) u = if sameb the_attribute last.0.attribute u.attribute && is_multi_valued u.attribute then last.1 + 1 else 0
 
--- the cells of rows, each at the position of its row, given the unit and the position of the previous row,
--- if any
+-- the cells of the rows, each at the position of its row; `last` is the unit and the position of the row
+-- before them, or None
 abbrev pub numbered : Option (AttributeUnit × ℕ) → List Row → List Entry
 numbered last [] = []
 numbered last (r ∷ rs) =
@@ -90,7 +92,7 @@ attribute_rows a rs = filter (λ (r : Row). sameb the_attribute r.unit.attribute
 abbrev pub put_values : AttributeUnit → List Row → List Row → List Row
 put_values u vs rs = filter (λ (r : Row). is_lt (unit_cmp r.unit u)) rs ++ (vs ++ filter (λ (r : Row). is_gt (unit_cmp r.unit u)) rs)
 
--- the number of values of an attribute; 1 if it is single-valued and has any cell
+-- the number of values of a multi-valued attribute; for a single-valued attribute, 1 if it has a cell, else 0
 abbrev pub positions : Attribute → List Row → ℕ
 positions a rs = if is_multi_valued a then length (values (whole a) rs) else (if list_any (λ (r : Row). sameb the_attribute r.unit.attribute a) rs then 1 else 0)
 
@@ -144,7 +146,7 @@ restricted keeps rs = filter has_fields (map (restricted_row keeps) rs)
 abbrev pub IsSoundField : Kind → AttributeUnit → Field → Type 0
 IsSoundField kind u f = (unit_of f.leaf ≡ u) × HasLeaf kind f.leaf × HasType (characteristics_of kind f.leaf).attribute_type f.atom
 
--- a valid row: its fields are valid and in order of sub-attribute, each once
+-- a valid row: its fields are valid and in order of sub-attribute, without duplicates
 pub record IsSoundRow (kind : Kind) (r : Row) : Type 0 where
   pub own : All (IsSoundField kind r.unit) r.fields
   pub in_order : AllPairs (λ f g. sub_attribute_number f.leaf.sub_attribute < sub_attribute_number g.leaf.sub_attribute) r.fields

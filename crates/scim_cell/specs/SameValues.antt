@@ -26,12 +26,12 @@ is_members a = sameb the_attribute a Members
 abbrev pub is_nameless : Attribute → Row → Bool
 is_nameless a r = is_members a && is_none (member_value r)
 
--- whether two values are the same: for members, if they have the same `value` or both have none (RFC 7643
--- section 4.2); for other values, if their cells are equal
+-- whether two values are the same: members, if they have the same `value` or neither has a `value` (RFC 7643
+-- section 4.2); values of other attributes, if their cells are equal
 abbrev pub is_same_value : Attribute → Row → Row → Bool
 is_same_value a r s = if is_members a then option_eq is_same_atom (member_value r) (member_value s) else is_same_row r s
 
--- the values, with one value appended unless the list already contains the same value
+-- the values `rs`, with `r` appended unless `rs` already contains the same value
 abbrev pub with_value : Attribute → List Row → Row → List Row
 with_value a rs r = if list_any (λ s. is_same_value a s r) rs then rs else rs ++ r ∷ []
 

@@ -5,7 +5,7 @@ use scim_text::{Moment, NoMemory};
 use std::alloc::Global;
 use std::marker::Model;
 
-/// An owned text. Contracts see it as its bytes.
+/// An owned text. In contracts, a text is the list of its bytes.
 pub struct Text {
     text: String,
 }

@@ -7,7 +7,7 @@ use crate::places::Place;
 use scim_schema::{AttributeType, Leaf};
 use scim_text::Moment;
 
-/// A cell of a part or a resource: an atom with its leaf and its position.
+/// A cell of a part or a resource: an atom, and the leaf and the position where it is.
 #[derive(Drop)]
 pub struct Cell {
     pub leaf: Leaf,
@@ -17,7 +17,7 @@ pub struct Cell {
 }
 
 impl Cell {
-    /// The place of the cell.
+    /// The place of the cell: its attribute, position and sub-attribute.
     pub fn place(&self) -> Place
         ensures { result ≡ place_of self.now }
     {
@@ -29,8 +29,8 @@ impl Cell {
     }
 }
 
-/// Whether an atom has the type (RFC 7643 section 2.3). Moments are dateTimes, truths are booleans,
-/// and texts are strings, references and binaries. No atom is complex.
+/// Whether an atom has the type (RFC 7643 section 2.3). A `Moment` has the type dateTime, a `Truth` the
+/// type boolean, and a `Text` the types string, reference and binary. No atom is complex.
 pub fn has_type(attribute_type: AttributeType, atom: &Atom) -> bool
     ensures { IsTrue result ↔ HasType attribute_type atom.now }
 {

@@ -12,14 +12,15 @@ use scim_text::{NoMemory, push};
 use std::alloc::Global;
 use std::collections::HashMap;
 
-/// The largest number of given values that are compared with each value of the list. More values are
-/// looked up by keys, which needs a temporary text for each value.
+/// The largest number of given values that `with_values` compares with each value of the list. If more
+/// values are given, it finds equal values by keys, which needs a temporary text for each value.
 const FEW: usize = 8;
 
-/// Appends the given values to the list, in order, except a value that is the same as an earlier one
-/// (RFC 7644 section 3.5.2.1).
+/// Appends the values of `given` to `values`, in order. Leaves out a value if an earlier value is the
+/// same (RFC 7644 section 3.5.2.1).
 ///
-/// The time is nearly linear in the number of all values. If few values are given, no text is copied.
+/// The time is nearly linear in the number of all values. If at most `FEW` values are given, no text is
+/// copied.
 pub fn with_values(
     alloc: Global,
     attribute: Attribute,
@@ -35,7 +36,7 @@ pub fn with_values(
     }
 }
 
-/// Appends the given values, comparing each with all values before it.
+/// Appends each given value unless an earlier value is the same. Compares it with all earlier values.
 fn with_few(
     attribute: Attribute,
     mut values: Vec<Row>,
@@ -51,7 +52,7 @@ fn with_few(
     Ok(values)
 }
 
-/// Appends the given values, looking up each by its key.
+/// Appends each given value unless an earlier value is the same. Looks up earlier values by key.
 fn with_many(
     alloc: Global,
     attribute: Attribute,
@@ -69,7 +70,7 @@ fn with_many(
 }
 
 /// Returns a map from the key of each value to its index. If several values have the same key, the map
-/// contains the last index. It has room for `more` further keys.
+/// contains the last index. The map has room for `more` further keys.
 fn places_of(
     alloc: Global,
     attribute: Attribute,
@@ -95,8 +96,8 @@ fn has_same(attribute: Attribute, values: &[Row], place: usize, value: &Row) -> 
     }
 }
 
-/// Appends a value and adds its key to `places`, unless the list already has the same value.
-/// Compares the value with the whole list only if another value has the same key.
+/// Appends `value` and adds its key to `places`, unless `values` already contains the same value.
+/// Compares `value` with the whole list only if a different value has the same key.
 fn add_value(
     alloc: Global,
     attribute: Attribute,

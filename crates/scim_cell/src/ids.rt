@@ -11,8 +11,8 @@ use uuid::Uuid;
 /// The id of a resource: a UUID, printed in the hyphenated form with lower-case letters (RFC 9562
 /// section 4).
 ///
-/// Contracts see an id as its sixteen bytes. Ids are ordered by their bytes, first byte first,
-/// which is also the order of their texts.
+/// In contracts, an id is the list of its sixteen bytes. Ids are ordered by their bytes, first byte
+/// first. Their texts have the same order.
 #[derive(Clone, Copy, Debug, PartialEq, Eq, PartialOrd, Ord, Hash)]
 pub struct Id {
     bytes: [u8; 16],
@@ -95,7 +95,7 @@ pub fn uuid_of(id: Id) -> Uuid
     Uuid::from_bytes(id.bytes)
 }
 
-/// Lemma: each byte of a slice is below 256. Proofs can use this fact for slices, but not for arrays.
+/// Lemma: each byte of a slice is below 256. Proofs know this fact for slices, but not for arrays.
 fn bytes_fit(bytes: &[u8])
     requires { length bytes.now ≡ 16 }
     ensures { IsId bytes.now }

@@ -55,8 +55,8 @@ pub(crate) fn number_of(sub_attribute: Option<SubAttribute>) -> u8
     }
 }
 
-/// The sub-attributes of an attribute, in the order of the cells of one value. Empty for a simple
-/// attribute.
+/// The sub-attributes of an attribute, in the order in which [`Place::compare`] sorts the cells of one
+/// value. Empty for a simple attribute.
 #[tactic(auto, unfolding(crate::specs::Place::sub_attributes_by_place))]
 pub fn sub_attributes_by_place(attribute: Attribute) -> &'static [SubAttribute]
     ensures { result.now ≡ spec.sub_attributes_by_place attribute }

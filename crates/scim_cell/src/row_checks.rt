@@ -38,8 +38,8 @@ fn rises(before: Option<u8>, number: u8) -> bool
 }
 
 /// Whether the row may be part of a resource of the kind: each field belongs to the row's unit and
-/// to the kind, its atom has the type of its leaf, and the fields are in order of sub-attribute, each
-/// once.
+/// to the kind, each atom has the type of its leaf, and the fields are in order of sub-attribute,
+/// without duplicates.
 ///
 /// A row without fields passes, although no part contains such a row.
 pub(crate) fn is_sound_row(kind: Kind, row: &Row) -> bool
@@ -48,8 +48,8 @@ pub(crate) fn is_sound_row(kind: Kind, row: &Row) -> bool
     are_sound_fields(kind, row.unit(), row.fields())
 }
 
-/// Whether the fields are valid for the unit and the kind, and are in order of sub-attribute, each
-/// once.
+/// Whether the fields are valid for the unit and the kind, and are in order of sub-attribute, without
+/// duplicates.
 fn are_sound_fields(kind: Kind, unit: Unit, fields: &[Field]) -> bool
     ensures { IsTrue result ↔ AreRising kind unit None fields.now }
 {

@@ -10,7 +10,7 @@ use scim_text::{NoMemory, push};
 use std::alloc::Global;
 use std::marker::Model;
 
-/// A leaf of a value, with its atom.
+/// One leaf of a value, and the atom at that leaf.
 pub struct Field {
     pub leaf: Leaf,
     pub atom: Atom,
@@ -25,8 +25,8 @@ impl Drop for Field {
     }
 }
 
-/// One value of a unit. A value of a multi-valued attribute has its fields in order of sub-attribute;
-/// a value of any other unit has one field.
+/// One value of a unit. A value of a multi-valued attribute has one field for each sub-attribute that is
+/// present, in order of sub-attribute. A value of any other unit has one field.
 pub struct Row {
     unit: Unit,
     fields: Vec<Field>,
@@ -56,17 +56,17 @@ impl Model for Row {
     ghost view = { row_of };
 }
 
-/// A test that decides which fields `Part::restrict` keeps, by the row and the leaf of a field.
+/// A test that decides from the row and the leaf of a field whether `Part::restrict` keeps the field.
 pub trait RowTest {
-    /// Whether a row's field at a leaf is kept.
+    /// The function that [`RowTest::is_kept`] computes, for use in contracts.
     ghost keeps: { Self → spec.Test };
 
     /// Whether the row's field at the leaf is kept.
     fn is_kept(&self, row: &Row, leaf: Leaf) -> bool
         ensures { result ≡ keeps self.now row.now leaf };
 
-    /// Whether any field of the row may be kept. If not, the fields aren't read, which saves a
-    /// memory access for most rows.
+    /// Returns false only if no field of the row is kept. In that case callers don't read the fields,
+    /// which saves a memory access for most rows.
     fn may_keep(&self, row: &Row) -> bool
         ensures { result ≡ false → (leaf : Leaf) → keeps self.now row.now leaf ≡ false }
     {
@@ -88,7 +88,7 @@ impl Field {
 }
 
 impl Row {
-    /// Returns a row with these fields. [`crate::are_values`] checks whether it may be a value of a part.
+    /// Returns a row with these fields, unchecked. [`crate::are_values`] checks whether rows are valid.
     pub fn new(unit: Unit, fields: Vec<Field>) -> Row
         ensures unit { result.unit ≡ unit }
         ensures fields { result.fields ≡ fields.items }
@@ -151,7 +151,7 @@ impl Row {
         })
     }
 
-    /// Returns a copy with only the fields that the test keeps. It may have no fields.
+    /// Returns a copy with only the fields that the test keeps. The copy may have no fields.
     pub fn restrict<T: RowTest>(&self, alloc: Global, test: &T) -> Result<Row, NoMemory>
         ensures { IfOk result (λ r. r ≡ spec.restricted_row (T.keeps test.now) self.now) }
     {

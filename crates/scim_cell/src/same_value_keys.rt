@@ -8,8 +8,8 @@ use scim_schema::{Attribute, Leaf, SubAttribute};
 use scim_text::NoMemory;
 use std::alloc::Global;
 
-/// Returns the key of a value: the text of its `value` for a member, the texts of all fields for any
-/// other value. Values that aren't the same can have the same key.
+/// Returns the key of a value. For a member, the key is the text of its `value`; for any other value,
+/// the joined texts of all fields. Different values can have the same key.
 pub(crate) fn key(alloc: Global, attribute: Attribute, value: &Row) -> Result<String, NoMemory>
     ensures { IfOk result (λ k. string_bytes k ≡ key_of attribute value.now) }
 {
@@ -22,8 +22,8 @@ pub(crate) fn key(alloc: Global, attribute: Attribute, value: &Row) -> Result<St
     }
 }
 
-/// The text of an atom in a key. It is empty for `false` and for moments, which multi-valued
-/// attributes don't have.
+/// The text that an atom adds to a key. It is empty for `false`, and for moments, which multi-valued
+/// attributes don't contain.
 fn text_of(atom: &Atom) -> &str
     ensures { result.now ≡ atom_key atom.now }
 {
@@ -34,8 +34,9 @@ fn text_of(atom: &Atom) -> &str
     }
 }
 
-/// The text of a field in a key: its sub-attribute, the length of its text and its text. The length
-/// marks where the text ends, so that a client can't make the texts of different fields join to the same key.
+/// The text that a field adds to a key: the name of the sub-attribute, the length of the atom's text and the
+/// atom's text. The length shows where the text ends, so that a client can't give different values the same
+/// key by moving text between fields.
 #[tactic(auto, unfolding(crate::specs::code::Keys::field_key))]
 fn field_text(alloc: Global, field: &Field) -> Result<String, NoMemory>
     ensures { IfOk result (λ k. string_bytes k ≡ field_key field.now) }
@@ -49,7 +50,7 @@ fn field_text(alloc: Global, field: &Field) -> Result<String, NoMemory>
     Ok(format!(in alloc; "{name} {length} {text}")?)
 }
 
-/// The texts of the fields, joined.
+/// The texts that the fields add to a key, joined in order.
 fn all_texts(alloc: Global, fields: &[Field]) -> Result<String, NoMemory>
     ensures { IfOk result (λ k. string_bytes k ≡ fields_key fields.now) }
 {

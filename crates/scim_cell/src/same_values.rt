@@ -7,8 +7,8 @@ use crate::rows::Row;
 use scim_schema::{Attribute, Leaf, SubAttribute};
 
 /// Whether two values of the attribute are the same. Members are the same if they have the same
-/// `value` or both have none (RFC 7643 section 4.2); other values are the same if their cells are
-/// equal. Comparisons of texts are case-sensitive.
+/// `value` or neither has a `value` (RFC 7643 section 4.2). Values of other attributes are the same if
+/// their cells are equal. Comparisons of texts are case-sensitive.
 pub fn is_same_value(attribute: Attribute, a: &Row, b: &Row) -> bool
     ensures { result ≡ spec.is_same_value attribute a.now b.now }
 {
@@ -33,7 +33,7 @@ pub fn is_nameless(attribute: Attribute, value: &Row) -> bool
             .is_none()
 }
 
-/// Whether one of `values` is the same as `value`. Compares them one by one.
+/// Whether one of `values` is the same as `value`. Compares `value` with each of them in turn.
 pub(crate) fn has_same_among(attribute: Attribute, values: &[Row], value: &Row) -> bool
     ensures { result ≡ list_any (λ other. spec.is_same_value attribute other value.now) values.now }
 {

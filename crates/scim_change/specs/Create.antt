@@ -15,20 +15,20 @@ use Rattle.scim_cell.specs.Rows.{Row, content}
 use Rattle.scim_value.specs.Resource.{location}
 use Rattle.scim_body.specs.Drafts.{Draft}
 
--- the value with this atom at the leaf, which is a unit of its own
+-- the row of the leaf's unit with one field: the atom at the leaf
 abbrev pub row_of : Leaf → Atom → Row
 row_of l atom = record { unit = unit_of l; fields = record { leaf = l; atom = atom } ∷ [] }
 
--- the value of a sub-attribute of `meta`
+-- the row of a sub-attribute of `meta` with this atom
 abbrev pub meta_row : SubAttribute → Atom → Row
 meta_row b atom = row_of (leaf_at Meta b) atom
 
--- the value of `id` (RFC 7643 section 3.1)
+-- the row of `id` (RFC 7643 section 3.1)
 abbrev pub id_row : List ℕ → Row
 id_row id = row_of (simple Id) (Text (id_text id))
 
--- the values of `meta` of a resource that is created at the moment, located below the base (RFC 7643 section
--- 3.1)
+-- the rows of `meta` for a resource of a kind with this id, created at this moment, with a location below the
+-- base (RFC 7643 section 3.1)
 abbrev pub meta_rows : Kind → List ℕ → ℕ → List ℕ → List Row
 meta_rows kind id moment base =
     meta_row ResourceType (Text (kind_name kind)) ∷ meta_row Created (Moment moment) ∷ meta_row LastModified (Moment moment) ∷ meta_row Location (Text (location base kind id)) ∷ []

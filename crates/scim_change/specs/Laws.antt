@@ -32,16 +32,16 @@ IsStamped changed moment before after =
     values (unit_of (leaf_at Meta LastModified)) (rows after)
     ≡ (if changed then meta_row LastModified (Moment moment) ∷ [] else values (unit_of (leaf_at Meta LastModified)) (rows before))
 
--- a change of the units at the moment keeps a resource's kind, id and other values, and sets
--- `meta.lastModified` if something changed
+-- the change keeps the resource's kind and id, and the values of all units except these; it sets
+-- `meta.lastModified` to the moment if something changed
 pub record IsLeft (us : List AttributeUnit) (changed : Bool) (moment : ℕ) (before after : Content) : Type 0 where
   pub kind : after.kind ≡ before.kind
   pub id : after.id ≡ before.id
   pub stays : Stays us before after
   pub modified : IsStamped changed moment before after
 
--- two outcomes are alike: both are refused, or both have equal values of the units and keep their other
--- values
+-- the outcomes of two changes are alike: both changes are refused, or both resources afterwards have equal
+-- values of the units, and each keeps its other values
 abbrev pub AreAlike : List AttributeUnit → Bool → ℕ → Content → Content → Option Content → Option Content → Type 0
 AreAlike us changed moment a b None None = Unit {0}
 AreAlike us changed moment a b (Some x) (Some y) = AgreeAt us x y × IsLeft us changed moment a x × IsLeft us changed moment b y

@@ -18,12 +18,13 @@ abbrev pub with_units : Draft → List AttributeUnit → List Row → List Row
 with_units d [] rs = rs
 with_units d (u ∷ us) rs = with_units d us (put_values u (values u d.rows) rs)
 
--- whether the draft's values of a unit differ from those in the rows, or the unit is writeOnly and the draft
--- gives it
+-- whether the draft and the rows have different values of a unit, or the unit is writeOnly and the body has a
+-- value for it
 abbrev pub changes_unit : Draft → List Row → AttributeUnit → Bool
 changes_unit d rs u = not (are_same_values (values u rs) (values u d.rows)) || (is_secret d.kind u && gives d u)
 
--- whether the draft changes the rows at any of these units
+-- whether one of these units has different values in the draft and the rows, or is writeOnly and has a value
+-- in the body
 abbrev pub changes : Draft → List AttributeUnit → List Row → Bool
 changes d us rs = list_any (changes_unit d rs) us
 

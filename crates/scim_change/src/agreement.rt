@@ -9,10 +9,10 @@ use scim_text::NoMemory;
 use scim_value::{Part, copy_rows};
 use std::alloc::Global;
 
-/// Whether the body gives the same values of the unit as the part has.
-/// The part's values are read as a body's: only the first of equal values counts, and a readOnly unit has no
-/// values. A writeOnly unit (RFC 7643 section 2.2) can't be compared, so it never agrees if the body gives
-/// it.
+/// Whether the draft has the same values of `unit` as the part.
+/// The part's values are treated like those in a body: equal values count once, and a readOnly unit has no
+/// values. False if the unit is writeOnly (RFC 7643 section 2.2) and the body has a value for it, since such
+/// values can't be compared.
 #[tactic(auto, unfolding(crate::specs::Agreement::agrees))]
 pub fn agrees(alloc: Global, draft: &Draft, unit: Unit, part: &Part) -> Result<bool, NoMemory>
     ensures { IfOk result (λ b. b ≡ spec.agrees draft.now unit part.now) }
@@ -25,7 +25,7 @@ pub fn agrees(alloc: Global, draft: &Draft, unit: Unit, part: &Part) -> Result<b
     Ok(draft.values(unit) == expected.as_slice())
 }
 
-/// Returns the values that a body with `values` would give for the unit.
+/// Returns the values of `unit` that would be read from a body with `values`.
 /// Each distinct value is returned once. A readOnly unit has no values in a body (RFC 7643 section 2.2).
 fn as_given(alloc: Global, kind: Kind, unit: Unit, values: &[Row]) -> Result<Vec<Row>, NoMemory>
     ensures { IfOk result (λ v. v.items ≡ spec.as_given kind unit values.now) }

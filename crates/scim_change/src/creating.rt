@@ -16,8 +16,8 @@ use std::alloc::Global;
 
 /// Returns the resource that a draft creates: the draft's values, `id` and `meta` (RFC 7643 section 3.1).
 /// `meta` says that the resource was created and last modified at `moment`, and that its location is below
-/// `base`, such as `http://127.0.0.1:8080`. The draft must have been read for `UseFor::Creating`. Its values
-/// are copied once.
+/// `base`, such as `http://127.0.0.1:8080`. The draft must have been read for `UseFor::Creating`. The
+/// draft's values are copied once.
 pub fn create(
     alloc: Global,
     draft: &Draft,
@@ -35,7 +35,7 @@ pub fn create(
     Ok(Resource::of_whole(Part::of_rows(kind, id, rows)))
 }
 
-/// Returns the value with this atom at the leaf, which is a unit of its own.
+/// Returns a row of the leaf's unit with one field: `atom` at `leaf`.
 fn row_of(alloc: Global, leaf: Leaf, atom: Atom) -> Result<Row, NoMemory>
     ensures { IfOk result (λ r. r ≡ spec.row_of leaf atom) }
 {
@@ -44,7 +44,7 @@ fn row_of(alloc: Global, leaf: Leaf, atom: Atom) -> Result<Row, NoMemory>
     Ok(Row::new(unit_of(leaf), fields))
 }
 
-/// Returns the value of a sub-attribute of `meta` that is a moment.
+/// Returns the row of a sub-attribute of `meta` with the value `moment`.
 pub(crate) fn moment_row(
     alloc: Global,
     sub_attribute: SubAttribute,
@@ -59,7 +59,7 @@ pub(crate) fn moment_row(
     row_of(alloc, leaf, Atom::Moment(moment))
 }
 
-/// Returns the value of a sub-attribute of `meta` that is a text.
+/// Returns the row of a sub-attribute of `meta` with the value `text`.
 fn text_row(alloc: Global, sub_attribute: SubAttribute, text: Text) -> Result<Row, NoMemory>
     ensures { IfOk result (λ r. r ≡ spec.meta_row sub_attribute (Atom.Text text)) }
 {
@@ -67,7 +67,7 @@ fn text_row(alloc: Global, sub_attribute: SubAttribute, text: Text) -> Result<Ro
     row_of(alloc, leaf, Atom::Text(text))
 }
 
-/// Returns the `meta` of a resource that is created at `moment`.
+/// Returns the rows of `meta` for a resource that is created at `moment`.
 fn meta_rows(
     alloc: Global,
     kind: Kind,
@@ -90,7 +90,7 @@ fn meta_rows(
     Ok(rows)
 }
 
-/// Returns `id`, copies of the draft's values, and `meta`, in the order of units.
+/// Returns the rows of the new resource in the order of units: `id`, copies of `values`, and `meta`.
 fn all_rows(alloc: Global, id: Id, values: &[Row], mut meta: Vec<Row>) -> Result<Vec<Row>, NoMemory>
     ensures rows { IfOk result (λ rs. rs.items ≡ spec.id_row id ∷ (values.now ++ meta.items)) }
     ensures id { IfOk result (λ rs. IsId id) }

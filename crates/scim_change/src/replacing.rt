@@ -31,9 +31,9 @@ pub struct Changed {
 pub struct MissingRequired;
 
 /// Replaces the resource's values of `units` by the draft's values (RFC 7644 section 3.5.1).
-/// A unit without a value in the draft is cleared; other units stay, and `meta.lastModified` becomes
-/// `moment`. If the draft has the same values of `units` as the resource, and gives no writeOnly unit
-/// among them, the resource is returned unchanged, including `meta.lastModified`.
+/// A unit without a value in the draft is cleared. Other units keep their values, but `meta.lastModified`
+/// becomes `moment`. If the draft has the same values of `units` as the resource, and its body had no value
+/// for a writeOnly unit among them, the resource is returned unchanged, including `meta.lastModified`.
 ///
 /// The draft must be of the resource's kind, and none of the units may be readOnly. Fails with
 /// `MissingRequired` if an attribute that the kind requires would be missing. On an error the resource is
@@ -72,7 +72,8 @@ pub fn replace(
     })
 }
 
-/// Whether the draft changes the part at any of the units.
+/// Whether one of the units has different values in the draft and the part, or is writeOnly and has a value
+/// in the body.
 fn changes(draft: &Draft, units: &[Unit], part: &Part) -> bool
     ensures { result ≡ spec.changes draft.now units.now (rows part.now) }
 {
@@ -84,8 +85,8 @@ fn changes(draft: &Draft, units: &[Unit], part: &Part) -> bool
     false
 }
 
-/// Whether the draft's values of the unit differ from the part's, or the unit is writeOnly and the draft
-/// gives it.
+/// Whether the draft and the part have different values of the unit, or the unit is writeOnly and the body
+/// has a value for it.
 fn changes_unit(draft: &Draft, part: &Part, unit: Unit) -> bool
     ensures { result ≡ spec.changes_unit draft.now (rows part.now) unit }
 {

@@ -26,7 +26,7 @@ pub record IsNumberText (text : List ℕ) (n : ℕ) : Type 0 where
   pub value : digits_value 10 text ≡ n
   pub fits : n < 2 ^ 64
 
--- the text is these bytes, at least one, in hex digits of either case
+-- the text is the hex digits, in either case, of `bytes`, which has at least one byte
 pub record IsHexText (text bytes : List ℕ) : Type 0 where
   pub decoded : decode_of text ≡ Ok bytes
   pub any : bytes ≢ []
@@ -37,11 +37,11 @@ Tells name rest n joining = (name ≡ codes "joined") × IsNumberText rest n
 Tells name rest n (sending bytes) = (name ≡ codes "piece") × IsNumberText (word rest) n × IsHexText (behind rest) bytes
 Tells name rest n leaving = (name ≡ codes "left") × IsNumberText rest n
 
--- the text is this moment, in the form in which the server prints it
+-- the text is this moment, in the form in which the server prints moments
 abbrev pub IsMomentText : List ℕ → ℕ → Type 0
 IsMomentText text moment = moment_of text ≡ Some moment
 
--- the text is this id, in the form in which the server prints it
+-- the text is this id, in the form in which the server prints ids
 pub record IsTextOfId (text id : List ℕ) : Type 0 where
   pub is_id : IsId id
   pub text_is : text ≡ id_text id
@@ -57,7 +57,7 @@ abbrev pub AreEventLines : List (List ℕ) → List HubEvent → Type 0
 AreEventLines [] events = events ≡ []
 AreEventLines (line ∷ ls) events = (event : HubEvent) × (rest : List HubEvent) × (events ≡ event ∷ rest) × IsEventLine line event × AreEventLines ls rest
 
--- the lines, without the last line if that is empty
+-- all lines, without the last line if it is empty
 abbrev pub without_empty_last : List (List ℕ) → List (List ℕ)
 without_empty_last [] = []
 without_empty_last (line ∷ []) = if length line == 0 then [] else line ∷ []

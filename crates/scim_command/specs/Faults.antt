@@ -1,4 +1,4 @@
--- The faults of files and shelves as faults of a command.
+-- Conversions of the faults of files and shelves to faults of a command.
 use Rattle.scim_text.specs.declared.memory.Failed.{Failed}
 use Rattle.scim_text.specs.declared.memory.Failed.TheVariants as failed
 use Rattle.scim_json.specs.declared.faults.DamagedItem.{DamagedItem}

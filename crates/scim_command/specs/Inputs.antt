@@ -15,14 +15,14 @@ abbrev pub item_of : Result Message Refusal → Item
 item_of (Ok message) = Whole message
 item_of (Err refusal) = Refused refusal
 
--- the first item other than 100 (Continue) is this message or refusal
+-- `first` is the message or refusal in the first item other than 100 (Continue)
 pub record IsFirstOf (items : List Item) (first : Result Message Refusal) : Type 0 where
   pub waits : List Item
   pub rest : List Item
   pub split : items ≡ waits ++ item_of first ∷ rest
   pub waited : All IsContinue waits
 
--- the first message or refusal that is read from the input is this one
+-- `first` is the first message or refusal that is read from the input
 pub record OpensWith (input : List ℕ) (first : Result Message Refusal) : Type 0 where
   pub front : List ℕ
   pub after : List ℕ

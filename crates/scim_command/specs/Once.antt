@@ -23,12 +23,12 @@ pub record IsStoreOf (base text : List ℕ) (store : Store) : Type 0 where
   pub documents : IsDocumentsText base text resources
   pub is_new : IsNewStore resources store
 
--- the arrival of the message: it is sent by the setting's client, whatever token it has, at the setting's
--- time, and a new resource gets the setting's id
+-- the arrival of the message: the sender is the setting's client, whatever token the message has, the time is
+-- the setting's, and a new resource gets the setting's id
 abbrev pub arrival_of : Setting → Arrival
 arrival_of s = record { client = Some s.client; moment = s.at; fresh = s.first }
 
--- the text is the answer to the message with this arrival, under the policy and with a store of resources
+-- the text is the answer to the message with this arrival, this policy and this store, whose resources are
 -- below the base URL; the service may fail for any cause
 abbrev pub IsReplyTo : List Rule → List ℕ → Arrival → Store → Message → List ℕ → Type 0
 IsReplyTo policy base arrival store message text =
@@ -41,8 +41,8 @@ abbrev pub IsReplyToFirst : List Rule → List ℕ → Arrival → Store → Res
 IsReplyToFirst policy base arrival store (Ok message) text = IsReplyTo policy base arrival store message text
 IsReplyToFirst policy base arrival store (Err refusal) text = text ≡ refusal_text refusal (whole_form true)
 
--- the text is the answer to the input: the reply to its first message or refusal, or, if memory runs out, the
--- reply for the refusal `Store`, with its body
+-- the text is the answer to the input: the reply to the first message or refusal that is read from the input,
+-- or, if memory runs out, the reply for the refusal `Store`, with a body
 abbrev pub IsAnswer : List Rule → List ℕ → Arrival → Store → List ℕ → List ℕ → Type 0
 IsAnswer policy base arrival store input text =
     ((first : Result Message Refusal) × OpensWith input first × IsReplyToFirst policy base arrival store first text)

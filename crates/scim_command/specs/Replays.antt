@@ -1,4 +1,4 @@
--- The text that `replay` writes for a recording.
+-- The text that `replay` writes for its files.
 use Rattle.std.specs.Prelude.{◌≡◌, ℕ, List, Result, Ok}
 use Rattle.scim_policy.specs.Rules.{Rule}
 use Rattle.scim_policy_file.specs.File.{policy_of}

@@ -1,4 +1,4 @@
-//! The events of a file, for a hub.
+//! Converts the events of an events file to events for a hub.
 ghost use Rattle.std.specs.Prelude.{◌≡◌, IfOk, map};
 ghost use Rattle.scim_hub.specs.HubStates.{event_of, owned_event_of};
 
@@ -6,7 +6,7 @@ use scim_hub::{Event, OwnedEvent};
 use scim_text::NoMemory;
 use std::alloc::Global;
 
-/// Returns events for a hub that borrow the pieces of these events, in their order.
+/// Returns the events in `owned` as events for a hub, in the same order. Borrows the pieces from `owned`.
 pub fn events_of(alloc: Global, owned: &[OwnedEvent]) -> Result<Vec<Event<'_>>, NoMemory>
     ensures { IfOk result (λ events. map event_of events.items ≡ map owned_event_of owned.now) }
 {

@@ -19,8 +19,8 @@ use scim_text::NoMemory;
 use std::alloc::Global;
 use std::io::Write;
 
-/// Validates a policy file, and writes a line with the number of rules. If `verbose` is true, writes further
-/// lines with each rule as a sentence, and with the rules that can never decide.
+/// Validates a policy file, and writes a line with the number of rules. If `verbose` is true, also writes
+/// each rule as a sentence, and then the rules that can never decide.
 ///
 /// Fails with `Policy` if the file is invalid. Fails with `Output` if a write fails; then a prefix of the
 /// lines' text, which may be empty or all of it, has been written. After any other error nothing is written.

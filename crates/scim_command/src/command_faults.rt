@@ -13,8 +13,7 @@ pub enum CommandFault {
     CannotRead(String),
     /// The server can't listen on the port.
     CannotListen,
-    /// The server can't serve its connections any more: the system can't report their events or measure
-    /// time.
+    /// The server can no longer serve its connections, because the system's poll or clock failed.
     CannotServe,
     /// The command failed.
     Run(RunFault),

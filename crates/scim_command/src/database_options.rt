@@ -60,8 +60,8 @@ impl<'a> ImportOptions<'a> {
     }
 }
 
-/// Parses a number of at most 64 bits. Fails with `BadOption` if the text isn't digits or the number is
-/// larger.
+/// Parses a number in decimal digits. Fails with `BadOption` if the text isn't digits or the number exceeds
+/// 64 bits.
 pub(crate) fn number_of(text: &str) -> Result<u64, CommandFault> {
     if matches!(text.as_bytes(), [b'+', ..]) {
         return Err(CommandFault::BadOption);

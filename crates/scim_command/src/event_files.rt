@@ -21,8 +21,8 @@ pub struct FaultyLine(pub usize);
 ///     MOMENT FIRST piece N HEX
 ///     MOMENT FIRST left N
 ///
-/// with one space between two words. MOMENT is the time, in the form in which the server prints it. FIRST is
-/// the id for the resource that the event's first whole message creates. N is the connection's number, in
+/// with one space between two words. MOMENT is the time, in the form in which the server prints times. FIRST
+/// is the id for the resource that the event's first whole message creates. N is the connection's number, in
 /// decimal digits and at most 64 bits. HEX is the piece of at least one byte, in hex digits of either case.
 /// Each line ends in LF, which may be missing from the last line; a CR before the LF makes the line invalid.
 ///
@@ -36,7 +36,7 @@ pub fn read_events(alloc: Global, text: &str) -> Result<Vec<OwnedEvent>, Failed<
     events_of_lines(alloc, before_empty_last(lines.as_slice()))
 }
 
-/// Returns the lines without the last one, if it is empty.
+/// Returns all lines, without the last line if it is empty.
 fn before_empty_last<'a, 'b>(lines: &'a [&'b str]) -> &'a [&'b str]
     ensures { map (λ l. l.now) result.now ≡ without_empty_last (map (λ l. l.now) lines.now) }
 {

@@ -18,7 +18,7 @@ struct ToldEvent {
     kind: OwnedEventKind,
 }
 
-/// Splits a text at its first space. Without a space, returns the whole text and the empty text.
+/// Splits a text at its first space. If there is no space, returns the whole text and the empty text.
 fn cut(text: &str) -> (&str, &str)
     ensures word { result.0.now ≡ spec.word text.now }
     ensures behind { result.1.now ≡ spec.behind text.now }

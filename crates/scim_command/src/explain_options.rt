@@ -70,7 +70,7 @@ fn leaf_given(matches: &ArgMatches<'_>, kind: Kind) -> Result<Option<Leaf>, Comm
     }
 }
 
-/// Returns the leaf of the kind that a path names; `None` if it names no single leaf.
+/// Returns the leaf of the kind that a path names; `None` if the path doesn't name exactly one leaf.
 fn leaf_at(kind: Kind, path: &str) -> Option<Leaf> {
     let leaf = match attribute_path(kind, path)? {
         Meant::Attribute(attribute) => Leaf::simple(attribute),

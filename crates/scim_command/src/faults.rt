@@ -10,14 +10,15 @@ use std::fmt;
 /// The fault of a command. Each command documents the faults that it returns.
 #[derive(Clone, Copy, Debug, PartialEq, Eq)]
 pub enum RunFault {
-    /// The policy file is invalid: the number of the rule, from 1, or 0 for the whole file, and the cause.
+    /// The policy file is invalid: the number of the invalid rule, from 1, or 0 for the whole file, and the
+    /// cause.
     Policy { rule: u32, cause: Cause },
     /// The users file is invalid: the number, from 1, of an item that isn't a valid user or group or that
     /// repeats an id or a unique name; 0 if the file isn't a JSON list.
     Users(usize),
-    /// The token file is invalid: the number of the line, from 1; 0 if the file isn't UTF-8.
+    /// The token file is invalid: the number of the first invalid line, from 1; 0 if the file isn't UTF-8.
     Tokens(usize),
-    /// The events file is invalid: the number of the line, from 1; 0 if the file isn't UTF-8.
+    /// The events file is invalid: the number of the first invalid line, from 1; 0 if the file isn't UTF-8.
     Events(usize),
     /// The input ended before the request did.
     InputEnded,
@@ -38,7 +39,8 @@ pub enum RunFault {
 pub enum DatabaseFault {
     /// The tables have another version.
     WrongVersion,
-    /// The tables are damaged: the rows of this id don't form one valid resource. It is the smallest such id.
+    /// The tables are damaged: the rows of this id don't form one valid resource. If there are several such
+    /// ids, this is the smallest.
     Damaged(Id),
     /// The database belongs to another program, can't be read or written, or is damaged although the rows of
     /// each id form a valid resource.
@@ -63,7 +65,7 @@ impl fmt::Display for DatabaseFault {
     }
 }
 
-/// Writes the name of a part of a file and its number.
+/// Writes `what`, the name of a part of a file such as a line, and its number.
 fn numbered<W: fmt::Write>(f: &mut fmt::Formatter<W>, what: &str, number: usize) -> fmt::Result {
     write!(f, "{what} {number}")
 }

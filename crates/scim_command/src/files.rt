@@ -17,7 +17,7 @@ pub enum FileKind {
     Tokens,
     /// A users file, which contains resources.
     Users,
-    /// An events file of connections.
+    /// An events file, which contains events of connections.
     Events,
 }
 
@@ -36,8 +36,8 @@ fn not_text(kind: FileKind) -> CommandFault {
 
 /// Returns the text of the file at a path.
 ///
-/// Fails with `CannotRead` if the file can't be read. If the file isn't UTF-8, fails with the error for its
-/// kind and with the number 0, such as `Users(0)`.
+/// Fails with `CannotRead` if the file can't be read. If the file isn't UTF-8, fails with the error for
+/// `kind`, with the number 0, such as `Users(0)`.
 pub fn read_file(
     rt: &(impl Files + AllocGlobal),
     kind: FileKind,
@@ -82,8 +82,8 @@ pub(crate) struct OnceTexts {
 impl OnceTexts {
     /// Reads the files that the options name.
     ///
-    /// Fails if a file can't be read or isn't UTF-8. If the policy is invalid and the users file can't be
-    /// read or isn't UTF-8, the error is `Policy`.
+    /// Fails with the error of [`read_file`] if a file can't be read or isn't UTF-8. But if the users file
+    /// can't be read or isn't UTF-8, and the policy is invalid, the error is `Policy`.
     pub(crate) fn read(
         rt: &(impl Files + AllocGlobal),
         options: &OnceOptions<'_>,
@@ -98,7 +98,7 @@ impl OnceTexts {
         }
     }
 
-    /// Returns the setting of `once` for these texts and options.
+    /// Returns the input of `once` with these texts and options.
     pub(crate) fn setting<'a>(&'a self, options: &OnceOptions<'a>) -> Setting<'a> {
         Setting {
             policy: self.policy.as_str(),

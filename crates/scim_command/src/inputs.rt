@@ -53,8 +53,8 @@ pub(crate) fn read_first<R: Read>(
     first_through(alloc, &mut wire, reader)
 }
 
-/// Reads the first message of an input, or the refusal of bytes that aren't a message, with a wire that has
-/// read no bytes. Fails with the errors of [`read_first`].
+/// Reads the first message of an input, or the refusal of bytes that aren't a message, through a wire that
+/// has read no bytes. Fails with the errors of [`read_first`].
 ///
 /// The wire is borrowed so that this function doesn't drop it at each of its exits, which keeps the proof
 /// short.

@@ -1,5 +1,5 @@
-//! The commands `once`, `check` and `replay` over files, a reader and a writer; the command line and options
-//! of all commands; and their error messages.
+//! Implements the commands `once`, `check` and `replay`, given the texts of their files, a reader and a
+//! writer. Also defines the command line, the options and the error messages of all commands.
 #![tactic(auto)]
 
 mod answers;

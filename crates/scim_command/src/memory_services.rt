@@ -1,4 +1,4 @@
-//! Services over the resources of a users file in memory.
+//! Services whose resources are read from a users file and kept in memory.
 ghost use Rattle.std.specs.Prelude.{◌≡◌, ℕ, Err, IfOk, IfErr};
 ghost use Rattle.scim_json.specs.Documents.{IsDamagedAt};
 ghost use Rattle.scim_shelf.specs.Stores.{Store};
@@ -15,8 +15,8 @@ use scim_service::Service;
 use scim_shelf::{MemoryShelf, Shelf};
 use std::alloc::Global;
 
-/// Returns a service with the policy and with the resources of a users file, which are located below the base
-/// URL.
+/// Returns a service with the policy and with the resources of a users file. The resources are located below
+/// the base URL.
 ///
 /// Fails with `Users` if the users file is invalid.
 pub fn service_over(

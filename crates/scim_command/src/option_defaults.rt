@@ -9,7 +9,7 @@ pub(crate) const DEFAULT_PORT: &str = "8080";
 /// The default of `once --at`: the time of the request.
 pub(crate) const DEFAULT_AT: &str = "1970-01-01T00:00:00Z";
 
-/// The default of `once --first`: the id of the resource that the request creates.
+/// The default of `once --first`: the id for the resource that the request may create.
 pub(crate) const DEFAULT_FIRST: &str = "00000000-0000-0000-0000-000000000000";
 
 /// The default of `audit --from`: the number of the first row to print.

@@ -29,7 +29,7 @@ pub struct OnceOptions<'a> {
 pub struct CheckOptions<'a> {
     /// The path of the policy file.
     pub policy: &'a str,
-    /// Whether the rules are described too.
+    /// Whether to describe each rule.
     pub verbose: bool,
 }
 
@@ -37,7 +37,7 @@ impl<'a> OnceOptions<'a> {
     /// Reads the options of `once`.
     ///
     /// Fails with `BadOption` if the client's name isn't valid, or if the time or the id doesn't have the
-    /// form in which the server prints it.
+    /// form in which the server prints times and ids.
     pub fn of(alloc: Global, matches: &ArgMatches<'a>) -> Result<OnceOptions<'a>, CommandFault> {
         let client = text_of(matches, "client")?;
         if !is_client_name(client) {
@@ -75,7 +75,7 @@ pub(crate) fn text_of<'a>(matches: &ArgMatches<'a>, name: &str) -> Result<&'a st
     }
 }
 
-/// Parses a time. Fails with `BadOption` if it doesn't have the form in which the server prints times.
+/// Parses a time. Fails with `BadOption` if the text doesn't have the form in which the server prints times.
 fn moment_of(alloc: Global, text: &str) -> Result<Moment, CommandFault> {
     match read_printed_moment(alloc, text) {
         Ok(Some(moment)) => Ok(moment),

@@ -66,7 +66,7 @@ fn result_lines(
 
 /// Returns the lines for the results of events, in order.
 ///
-/// The line is `write N HEX` for a text written to connection N, `close N` if connection N is shut, and
+/// A line is `write N HEX` for a text written to connection N, `close N` if connection N is shut, and
 /// `fault N` followed by the reason if an event of connection N failed. `events` and `results` should have
 /// the same length; further entries of the longer list are ignored.
 pub(crate) fn results_text(

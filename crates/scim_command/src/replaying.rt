@@ -20,8 +20,10 @@ struct Texts {
 }
 
 impl Texts {
-    /// Reads the files that the options name, one after another. Returns the fault of the first file that
-    /// can't be read, isn't UTF-8 or is invalid; the events aren't checked.
+    /// Reads the files that the options name, one after another.
+    ///
+    /// If a file can't be read or isn't UTF-8, fails with this fault, unless an earlier file is invalid; then
+    /// fails with the fault of the first invalid file.
     fn read(
         rt: &(impl Files + AllocGlobal),
         options: &ReplayOptions<'_>,
@@ -50,8 +52,8 @@ impl Texts {
         Ok(texts)
     }
 
-    /// Returns the fault of the first invalid file among the policy, the tokens and these users, or `fault`
-    /// if they are valid.
+    /// Returns the fault of the first invalid file among the policy, the tokens and `users`, or `fault` if
+    /// all three are valid.
     fn first_fault(
         &self,
         alloc: Global,
@@ -73,10 +75,10 @@ impl Texts {
     }
 }
 
-/// Runs `replay`: answers the events of a file, and writes the outputs for each.
+/// Runs `replay`: answers the events of a file, and writes the outputs for each event.
 ///
-/// Fails with the first error in this order: an invalid option; for each file in turn, that it can't be
-/// read, isn't UTF-8 or is invalid; and the other errors of [`replay`].
+/// Fails with the first error in this order: an invalid option; for the policy, token, users and events file
+/// in turn, that the file can't be read, isn't UTF-8 or is invalid; and the other errors of [`replay`].
 pub fn replay_over_files<W: Write>(
     rt: &(impl Files + AllocGlobal),
     matches: &ArgMatches<'_>,

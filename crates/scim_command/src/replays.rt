@@ -49,9 +49,9 @@ pub struct Recording<'a> {
 /// Answers the events of a file one after another, and writes the results as lines: `write N HEX`, `close N`,
 /// or `fault N` with the reason.
 ///
-/// Fails for the first invalid file, in this order, with `Policy`, `Tokens`, `Users` or `Events`. After these
-/// errors and `NoMemory` nothing is written. Fails with `Output` if a write fails; then a prefix of the
-/// lines' text, which may be empty or all of it, has been written.
+/// Fails with `Policy`, `Tokens`, `Users` or `Events` if a file is invalid; if several are, with the first of
+/// these. After these errors and `NoMemory` nothing is written. Fails with `Output` if a write fails; then a
+/// prefix of the lines' text, which may be empty or all of it, has been written.
 pub fn replay<W: Write>(
     alloc: Global,
     recording: &Recording<'_>,
@@ -75,14 +75,14 @@ pub fn replay<W: Write>(
     write_or_fault(text.as_str(), writer)
 }
 
-/// Returns the fault of the first invalid file among the policy, the tokens and the users; `None` if they
-/// are valid.
+/// Returns the fault of the first invalid file among the policy, the tokens and the users; `NoMemory` if
+/// memory runs out; `None` if all three are valid.
 pub(crate) fn first_fault(alloc: Global, recording: &Recording<'_>) -> Option<RunFault> {
     hub_over(alloc, recording).err()
 }
 
-/// Returns the lines that [`replay`] writes. Fails for the first invalid file, in this order, with `Policy`,
-/// `Tokens`, `Users` or `Events`.
+/// Returns the lines that [`replay`] writes. Fails with `Policy`, `Tokens`, `Users` or `Events` if a file is
+/// invalid; if several are, with the first of these.
 fn replayed(alloc: Global, recording: &Recording<'_>) -> Result<String, RunFault>
     ensures told { IfOk result (λ text. Replays recording.now (string_bytes text)) }
     ensures policy { (rule : ℕ) (cause : Cause) → result ≡ Err (RunFault.Policy rule cause)
@@ -102,7 +102,7 @@ fn replayed(alloc: Global, recording: &Recording<'_>) -> Result<String, RunFault
 
 /// Returns a hub without connections, with the policy, the resources and the tokens of the files.
 ///
-/// Fails for the first invalid file, in this order, with `Policy`, `Tokens` or `Users`.
+/// Fails with `Policy`, `Tokens` or `Users` if a file is invalid; if several are, with the first of these.
 fn hub_over(alloc: Global, recording: &Recording<'_>) -> Result<Hub<MemoryShelf>, RunFault>
     ensures hub { IfOk result (IsHubOver ⟦<MemoryShelf as Shelf>⟧.stands recording.now) }
     ensures policy { (rule : ℕ) (cause : Cause) → result ≡ Err (RunFault.Policy rule cause)

@@ -34,8 +34,8 @@ use std::alloc::Global;
 use std::io::{Read, Write};
 use uuid::Uuid;
 
-/// The input of `once` besides the request: the texts of its files, and the request's client, base URL, time
-/// and id.
+/// The input of `once` other than the request: the texts of the files, the client, the base URL, the time of
+/// the request and the id for a new resource.
 #[derive(Clone, Copy)]
 pub struct Setting<'a> {
     /// The text of the policy file.
@@ -53,7 +53,7 @@ pub struct Setting<'a> {
 }
 
 impl<'a> Setting<'a> {
-    /// Returns a setting with the first moment, 1970-01-01T00:00:00Z, and the nil id.
+    /// Returns a setting with these texts, the time 1970-01-01T00:00:00Z and the nil id.
     pub fn new(policy: &'a str, users: &'a str, client: &'a str, base: &'a str) -> Setting<'a>
         ensures texts { (result.policy.now ≡ policy.now) × (result.users.now ≡ users.now)
             × (result.client.now ≡ client.now) × (result.base.now ≡ base.now) }
@@ -88,7 +88,7 @@ fn first_moment() -> Moment
 /// Errors:
 ///
 /// - `Policy`: the policy file is invalid.
-/// - `Users`: the policy file is valid, and the users file isn't.
+/// - `Users`: the policy file is valid, but the users file is invalid.
 /// - `InputEnded`: the input ends before the message does.
 /// - `InputFailed`: a read fails.
 /// - `NoMemory`: memory runs out before the message is read.

@@ -20,8 +20,7 @@ told_at None policy q c = table policy q.client.now q.op c
 abbrev pub told : List Rule → Question → Content → List ℕ
 told policy q c = told_at q.leaf policy q c
 
--- the fault is one that `explain` returns: no such resource, an unusable database, a failed write, or
--- `NoMemory`
+-- `explain` may return the fault: no such resource, an unusable database, a failed write, or `NoMemory`
 abbrev pub IsExplainFault : RunFault → Type 0
 IsExplainFault Absent = Unit {0}
 IsExplainFault (Database Unusable) = Unit {0}

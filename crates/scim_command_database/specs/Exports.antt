@@ -8,7 +8,7 @@ use Rattle.scim_json.specs.Stored.{stored_text}
 use Rattle.scim_json.specs.Documents.{IsDocumentsText}
 use Rattle.scim_shelf.specs.Stores.{Store, IsStore, IsNewStore}
 
--- the users and then the groups, each in the order of the list
+-- the users and then the groups, both in the order in which the list has them
 abbrev pub users_and_groups : List Content → List Content
 users_and_groups cs = of_kind User cs ++ of_kind Group cs
 

@@ -24,16 +24,16 @@ of_importing (importing.Database error) = Database Unusable
 of_importing importing.OtherBase = Database Unusable
 of_importing importing.NoMemory = NoMemory
 
--- the fault is one that a command which reads a store and writes a text returns: an unusable database, a
--- failed write, or `NoMemory`
+-- a command that reads a store and writes a text may return the fault: an unusable database, a failed write,
+-- or `NoMemory`
 abbrev pub IsDatabaseFault : RunFault → Type 0
 IsDatabaseFault (Database Unusable) = Unit {0}
 IsDatabaseFault Output = Unit {0}
 IsDatabaseFault NoMemory = Unit {0}
 IsDatabaseFault _ = ⊥
 
--- the fault is one that `import` returns: an invalid users file, a database that isn't empty or is unusable,
--- or `NoMemory`
+-- `import` may return the fault: an invalid users file, a database that isn't empty or is unusable, or
+-- `NoMemory`
 abbrev pub IsImportFault : RunFault → Type 0
 IsImportFault (Users n) = Unit {0}
 IsImportFault (Database NotEmpty) = Unit {0}

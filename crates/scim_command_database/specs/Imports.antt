@@ -6,8 +6,7 @@ use Rattle.scim_cell.specs.Content.{Content}
 use Rattle.scim_json.specs.Documents.{IsDocumentsText}
 use Rattle.scim_store.specs.Importing.{LeavesImported}
 
--- the contents (trees) that a database may have after a crash during the import of a users file, in addition
--- to those that were possible before the import: the tables with all resources of the file, if the database
--- was empty
+-- the contents (trees) that an empty database may have after a crash during the import of a users file: the
+-- tables with all resources of the file. The contents that were possible before the import aren't included.
 abbrev pub LeavesUsers : List ℕ → List ℕ → State → Trees → Type 0
 LeavesUsers base users s trees = (resources : List Content) × IsDocumentsText base users resources × LeavesImported base resources s trees

@@ -106,8 +106,7 @@ fn export_text<H: Shelf>(alloc: Global, shelf: &mut H) -> Result<String, RunFaul
     Ok(documents.finish()?)
 }
 
-/// Passes all users and then all groups to the visitor. Fails if a call of [`Shelf::each`] fails, with its
-/// error.
+/// Passes all users and then all groups to the visitor. If [`Shelf::each`] fails, returns its error.
 fn show_all<H: Shelf, V: Visitor>(
     alloc: Global,
     shelf: &mut H,

@@ -17,8 +17,8 @@ use std::io::Write;
 
 /// A command that works on an open database.
 ///
-/// Its function is generic in the database's storage and returns the connection. So only one function has to
-/// be proved with a connection to the system's files; that proof takes a minute.
+/// [`DatabaseWork::over`] is generic in the database's storage and returns the connection. So only one
+/// function has to be proved with a connection to the system's files; that proof takes a minute.
 pub trait DatabaseWork {
     /// Runs the command on the connection, writes its output, and returns the connection with the result.
     fn over<S: Alter + Drop, W: Write>(
@@ -112,7 +112,7 @@ impl DatabaseWork for Importing<'_> {
 
 /// Opens the store in a database, with resources located below the base URL.
 ///
-/// If [`SqlShelf::open`] fails, returns its error, as an error of the program, and the connection.
+/// If [`SqlShelf::open`] fails, returns its error, converted to an error of the program, and the connection.
 fn open_store<S: Alter + Drop>(
     alloc: Global,
     connection: Connection<S>,
@@ -137,8 +137,8 @@ fn of_run(done: Result<(), RunFault>) -> Result<(), CommandFault> {
 /// Opens the store in a database, with resources located below the base URL, and with a cache of all
 /// resources if `has_cache` is true and memory suffices.
 ///
-/// If [`SqlShelf::open`] fails, returns its error, as an error of the program, and the connection. If the
-/// resources can't be read into the cache, returns `Database` and the connection.
+/// If [`SqlShelf::open`] fails, returns its error, converted to an error of the program, and the connection.
+/// If the resources can't be read into the cache, returns the error `Database` and the connection.
 pub fn open_cached<S: Alter + Drop>(
     alloc: Global,
     connection: Connection<S>,

@@ -14,7 +14,8 @@ use Rattle.scim_schema.specs.Table.{sub_attributes}
 use Rattle.scim_schema.specs.Characteristics.{attribute_characteristics, sub_attribute_characteristics}
 use Rattle.scim_discovery.specs.Members.{with_member}
 
--- the members that describe a name and its characteristics, with optional sub-attributes
+-- the JSON members that describe an attribute or sub-attribute: its name, its characteristics and, if given,
+-- its sub-attributes
 abbrev pub members_for : List ℕ → Characteristics → Option Data → Members
 members_for name c sub_attributes =
     member (codes "caseExact") (boolean c.case_exact)

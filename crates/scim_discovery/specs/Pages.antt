@@ -40,6 +40,6 @@ has_filter query = is_given_in (parameters_of query).filter
 abbrev pub reply_of : DiscoveryPage → Option (List ℕ) → Result (List ℕ) Refusal
 reply_of page query = if has_filter query then Err Denied else Ok (compact_text (page_data page))
 
--- the result is the specified reply
+-- the result is the reply that `reply_of` defines
 abbrev pub Replies : DiscoveryPage → Option (List ℕ) → Result (List ℕ) Refusal → Type 0
 Replies page query told = told ≡ reply_of page query

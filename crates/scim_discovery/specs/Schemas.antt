@@ -23,7 +23,7 @@ schema_name UserSchema = codes "User"
 schema_name GroupSchema = codes "Group"
 schema_name EnterpriseUser = codes "EnterpriseUser"
 
--- the attributes that a schema lists, without the attributes that every resource has (RFC 7643 section 3.1)
+-- the attributes that a schema lists, without those that are common to all resources (RFC 7643 section 3.1)
 abbrev pub attributes_in : Schema → List Attribute
 attributes_in UserSchema = single_user_attributes ++ multi_valued_user_attributes
 attributes_in GroupSchema = group_attributes

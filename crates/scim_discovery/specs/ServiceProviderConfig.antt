@@ -14,11 +14,11 @@ bearer_tokens = object
 abbrev pub authentication_schemes : Data
 authentication_schemes = array (item bearer_tokens no_items)
 
--- the list with the URN of this page's schema
+-- the value of `schemas`: the list with the URN of the schema of service provider configurations
 abbrev pub config_schemas : Data
 config_schemas = array (item (string (codes "urn:ietf:params:scim:schemas:core:2.0:ServiceProviderConfig")) no_items)
 
--- the JSON that tells whether a feature is supported
+-- a JSON object that says whether a feature is supported
 abbrev pub supported : Bool → Data
 supported b = object (member (codes "supported") (boolean b) no_members)
 
@@ -29,7 +29,7 @@ bulk = object
     (member (codes "maxPayloadSize") (number (unsigned 0))
     (member (codes "supported") (boolean false) no_members)))
 
--- the description of filters, which are supported, with at most 200 resources on a page (RFC 7644 section
+-- the description of filters: they are supported, and a page has at most 200 resources (RFC 7644 section
 -- 3.4.2)
 abbrev pub filter : Data
 filter = object (member (codes "maxResults") (number (unsigned MOST_SHOWN)) (member (codes "supported") (boolean true) no_members))

@@ -14,7 +14,7 @@ use scim_text::{NoMemory, push};
 use serde_json::{Map, Value, put};
 use std::alloc::Global;
 
-/// Returns the members that describe a name and its characteristics.
+/// Returns the JSON members that describe an attribute or sub-attribute: its name and its characteristics.
 fn members_for(
     alloc: Global,
     name: &str,
@@ -28,7 +28,8 @@ fn members_for(
     Ok(map)
 }
 
-/// Fills the empty `map` with the members that describe a name and its characteristics.
+/// Fills the empty `map` with the JSON members that describe an attribute or sub-attribute: its name and its
+/// characteristics.
 ///
 /// The map is borrowed so that no early return has to drop it. On an error it may have some of the members.
 fn put_members(
@@ -60,7 +61,7 @@ fn put_members(
     put_text(map, alloc, "uniqueness", uniqueness.name())
 }
 
-/// Returns the description of a sub-attribute.
+/// Returns the JSON object that describes a sub-attribute.
 fn sub_attribute_value(
     alloc: Global,
     attribute: Attribute,
@@ -73,7 +74,8 @@ fn sub_attribute_value(
     Ok(Value::Object(map))
 }
 
-/// Returns the descriptions of a complex attribute's sub-attributes, in the order of the attribute table.
+/// Returns the JSON objects that describe the sub-attributes of a complex attribute, in the order of the
+/// attribute table.
 fn sub_attribute_values(alloc: Global, attribute: Attribute) -> Result<Vec<Value>, NoMemory>
     ensures { IfOk result (λ values. map view values.items
         ≡ map (spec.sub_attribute_data attribute) (sub_attributes attribute)) }
@@ -86,8 +88,8 @@ fn sub_attribute_values(alloc: Global, attribute: Attribute) -> Result<Vec<Value
     Ok(values)
 }
 
-/// Returns the description of an attribute of the kind: its name, its characteristics, and its sub-attributes
-/// if it is complex.
+/// Returns the JSON object that describes an attribute of the kind: its name, its characteristics, and its
+/// sub-attributes if it is complex.
 pub(crate) fn attribute_value(
     alloc: Global,
     kind: Kind,

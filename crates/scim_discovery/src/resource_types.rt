@@ -10,14 +10,15 @@ use scim_text::{NoMemory, push};
 use serde_json::{Map, Value, json, put};
 use std::alloc::Global;
 
-/// Returns the description of a schema extension. Extensions are never required.
+/// Returns the JSON object that describes a schema extension of a resource type. Extensions are never
+/// required.
 fn extension_value(alloc: Global, schema: Schema) -> Result<Value, NoMemory>
     ensures { IfOk result (λ v. view v ≡ spec.extension_data schema) }
 {
     Ok(json!(in alloc; {"required": false, "schema": schema.urn()})?)
 }
 
-/// Returns the descriptions of schema extensions.
+/// Returns the JSON objects that describe these schema extensions, in order.
 fn extension_values(alloc: Global, schemas: &[Schema]) -> Result<Vec<Value>, NoMemory>
     ensures { IfOk result (λ values. map view values.items ≡ map spec.extension_data schemas.now) }
 {
@@ -42,7 +43,7 @@ fn members_for(alloc: Global, kind: Kind) -> Result<Map<String, Value>, NoMemory
     Ok(map)
 }
 
-/// Returns the resource type of a kind.
+/// Returns the JSON object that describes the resource type of a kind.
 #[tactic(auto, unfolding(crate::specs::ResourceTypes::resource_type_data))]
 pub(crate) fn resource_type_value(alloc: Global, kind: Kind) -> Result<Value, NoMemory>
     ensures { IfOk result (λ v. view v ≡ spec.resource_type_data kind) }
@@ -57,7 +58,7 @@ pub(crate) fn resource_type_value(alloc: Global, kind: Kind) -> Result<Value, No
     Ok(Value::Object(map))
 }
 
-/// Returns all resource types.
+/// Returns the JSON objects that describe all resource types.
 pub(crate) fn resource_type_values(alloc: Global) -> Result<Vec<Value>, NoMemory>
     ensures { IfOk result (λ values. map view values.items ≡ map spec.resource_type_data kinds) }
 {

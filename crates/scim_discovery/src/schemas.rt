@@ -22,7 +22,7 @@ fn kind_with(schema: Schema) -> Kind
     }
 }
 
-/// The name of a schema.
+/// Returns the name of a schema.
 fn schema_name(schema: Schema) -> &'static str
     ensures { result.now ≡ spec.schema_name schema }
 {
@@ -33,7 +33,7 @@ fn schema_name(schema: Schema) -> &'static str
     }
 }
 
-/// Whether every resource has the attribute, whatever its schemas (RFC 7643 section 3.1).
+/// Whether the attribute is common to all resources, whatever their schemas (RFC 7643 section 3.1).
 fn is_common(attribute: Attribute) -> bool
     ensures { result ≡ listed.is_common attribute }
 {
@@ -44,7 +44,7 @@ fn is_common(attribute: Attribute) -> bool
 }
 
 /// Returns the descriptions of the schema's attributes, in the order of the attribute table. Leaves out the
-/// attributes that every resource has.
+/// attributes that are common to all resources.
 fn attribute_values(alloc: Global, schema: Schema) -> Result<Vec<Value>, NoMemory>
     ensures { IfOk result (λ values. map view values.items
         ≡ map (attribute_data (spec.kind_with schema)) (spec.attributes_in schema)) }

@@ -19,7 +19,7 @@ fn authentication_schemes_value(alloc: Global) -> Result<Value, NoMemory>
     }])?)
 }
 
-/// Returns the list with the URN of this page's schema.
+/// Returns the value of `schemas`: the list with the URN of the schema of service provider configurations.
 fn schemas_value(alloc: Global) -> Result<Value, NoMemory>
     ensures { IfOk result (λ v. view v ≡ spec.config_schemas) }
 {
@@ -33,14 +33,14 @@ fn bulk_value(alloc: Global) -> Result<Value, NoMemory>
     Ok(json!(in alloc; {"maxOperations": 0u64, "maxPayloadSize": 0u64, "supported": false})?)
 }
 
-/// Returns the description of filters, which are supported, with the maximum number of resources on a page.
+/// Returns the description of filters: they are supported, and a page has at most 200 resources.
 fn filter_value(alloc: Global) -> Result<Value, NoMemory>
     ensures { IfOk result (λ v. view v ≡ spec.filter) }
 {
     Ok(json!(in alloc; {"maxResults": 200u64, "supported": true})?)
 }
 
-/// Inserts under a key whether a feature is supported.
+/// Inserts under `key` a JSON object that says whether a feature is supported.
 fn put_supported(
     map: &mut Map<String, Value>,
     alloc: Global,

@@ -18,7 +18,7 @@ is_descending (Some text) =
     else if is_same_name text (codes "ascending") then Ok false
     else Err MessageValue
 
--- the 1-based position of the first resource on the page: `startIndex`, or 1 if that is below 1 or not given
+-- the 1-based position of the first resource on the page: `startIndex`, or 1 if it is below 1 or not given
 -- (RFC 7644 section 3.4.2.4)
 abbrev pub first_shown : Option ℤ → ℕ
 first_shown None = 1
@@ -33,8 +33,8 @@ most_shown None = USUALLY_SHOWN
 most_shown (Some (pos n)) = min n MOST_SHOWN
 most_shown (Some (negsuc n)) = 0
 
--- the arrangement that `sortBy`, `sortOrder`, `startIndex` and `count` select; a `sortBy` that names no leaf
--- is ignored
+-- the sorting and paging that `sortBy`, `sortOrder`, `startIndex` and `count` select, or the refusal
+-- `MessageValue` if `sortOrder` is invalid; a `sortBy` that names no leaf is ignored
 abbrev pub arranged : Kind → Option (List ℕ) → Option (List ℕ) → Option ℤ → Option ℤ → Result Arrangement Refusal
 arranged kind sort_by sort_order start_index count =
     is_descending sort_order >>= λ descending. Ok (record {

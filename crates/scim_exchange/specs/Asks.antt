@@ -55,7 +55,7 @@ draft_in use_for kind text = as_draft (body_of kind use_for (read text))
 unfoldable pub draft_asked : UseFor → Kind → List ℕ → Result Draft Refusal
 draft_asked use_for kind body = if is_utf8 body then draft_in use_for kind body else Err Syntax
 
--- the patch, or the refusal for the fault that reading it returned
+-- the patch, or the refusal for the fault if the patch couldn't be read
 abbrev pub as_patch : Result Patch PatchFault → Result Patch Refusal
 as_patch (Ok p) = Ok p
 as_patch (Err fault.Syntax) = Err Syntax

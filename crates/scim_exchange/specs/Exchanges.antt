@@ -23,7 +23,7 @@ use Rattle.scim_exchange.specs.declared.exchanges.Arrival.{Arrival}
 use Rattle.scim_exchange.specs.declared.answers.Answer.{Answer}
 use Rattle.scim_exchange.specs.declared.answers.Answer.TheVariants.{Refused, Page as APage, Served}
 
--- the turn is the service's input for the client's message with this arrival, route and body
+-- `turn` is the input of the service for a message of `client` with this arrival, route and body
 pub record IsTurnOf (client : List ℕ) (arrival : Arrival) (route : Route) (body : List ℕ) (turn : Turn) : Type 0 where
   pub client_is : turn.request.client ≡ client
   pub op_is : turn.request.op ≡ route.op
@@ -46,7 +46,7 @@ page_or (Err refusal) = Refused refusal
 abbrev pub IsPageOr : DiscoveryPage → Option (List ℕ) → Answer → Type 0
 IsPageOr page query answer = (told : Result (List ℕ) Refusal) × Replies page query told × (answer ≡ page_or told)
 
--- the answer is the service's reply to the turn of the client's message
+-- the answer is the reply of the service to the message of `client`
 abbrev pub IsServed : List ℕ → List Rule → List ℕ → (Failed ShelfFault → Type 0) → Arrival → Route → Message → Store → Answer → Store → Type 0
 IsServed client policy base Cause arrival route message store answer next =
     (turn : Turn) × (reply : Reply)
@@ -59,8 +59,9 @@ abbrev pub IsServedTo : Option (List ℕ) → List Rule → List ℕ → (Failed
 IsServedTo None policy base Cause arrival route message store answer next = IsTold (Refused NoToken) store answer next
 IsServedTo (Some client) policy base Cause arrival route message store answer next = IsServed client policy base Cause arrival route message store answer next
 
--- the answer, given the endpoint that was found: the refusal if none was found, a discovery page (which needs
--- no token) or its refusal, or the service's reply
+-- the answer for the result of finding the endpoint: the refusal if no endpoint was found; for a discovery
+-- endpoint, which needs no token, the page or a refusal; for other endpoints, the service's reply or the
+-- refusal `NoToken`
 abbrev pub ComesOf : Result Found Refusal → List Rule → List ℕ → (Failed ShelfFault → Type 0) → Arrival → Message → Store → Answer → Store → Type 0
 ComesOf (Err refusal) policy base Cause arrival message store answer next = IsTold (Refused refusal) store answer next
 ComesOf (Ok (Discovery page query)) policy base Cause arrival message store answer next =
@@ -68,7 +69,7 @@ ComesOf (Ok (Discovery page query)) policy base Cause arrival message store answ
 ComesOf (Ok (Resource route)) policy base Cause arrival message store answer next =
     IsServedTo (option_copied arrival.client) policy base Cause arrival route message store answer next
 
--- the answer to a message and the store after it, under this policy and with resources below this base URI:
+-- the answer to a message and the store after it, with this policy and with resources below this base URI:
 -- the answer of the endpoint that the method and target name, or the refusal `Store` if memory runs out
 abbrev pub Exchanged : List Rule → List ℕ → (Failed ShelfFault → Type 0) → Arrival → Message → Store → Answer → Store → Type 0
 Exchanged policy base Cause arrival message store answer next =

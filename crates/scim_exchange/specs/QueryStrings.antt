@@ -36,14 +36,15 @@ unfoldable pub integer_of : Option (List ℕ) → Result (Option ℤ) Refusal
 integer_of None = Ok None
 integer_of (Some text) = ok_or (option_map Some (integer_in text)) MessageValue
 
--- the arrangement that the parameters ask for
+-- the sorting and paging that the parameters ask for, or the refusal `MessageValue` if a value isn't allowed
 unfoldable pub arrangement_of : Kind → Parameters → Result Arrangement Refusal
 arrangement_of kind parameters = do
   start_index ← integer_of parameters.start_index
   count ← integer_of parameters.count
   arranged kind parameters.sort_by parameters.sort_order start_index count
 
--- the settings that the parameters ask for: everything but the filter
+-- the attribute lists, sorting and paging that the parameters ask for, or the refusal `MessageValue` if a
+-- value isn't allowed
 unfoldable pub settings_of : Kind → Parameters → Result Settings Refusal
 settings_of kind parameters = do
   arrangement ← arrangement_of kind parameters

@@ -8,8 +8,8 @@ abbrev pub ◌>>=◌ : {A B : Type 0} → Result A Refusal → (A → Result B R
 (Ok x) >>= f = f x
 (Err refusal) >>= f = Err refusal
 
--- the result agrees with the expected one: its value is related by P to the expected value, or it is the
--- expected refusal
+-- the result agrees with the expected result `due`: both are values, which P relates, or both are the same
+-- refusal
 abbrev pub Tells : {X Y : Type 0} → (Y → X → Type 0) → Result Y Refusal → Result X Refusal → Type 0
 Tells P due (Ok x) = (y : _) × (due ≡ Ok y) × P y x
 Tells P due (Err refusal) = due ≡ Err refusal

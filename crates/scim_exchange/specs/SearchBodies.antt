@@ -34,7 +34,8 @@ unfoldable pub integer_given : Option Data → Result (Option ℤ) Refusal
 integer_given None = Ok None
 integer_given (Some d) = ok_or (option_map Some (option_and_then as_i64 (as_number d))) MessageValue
 
--- the text of a list's item, as a list; empty for null and `[]`, and `None` for any other JSON value
+-- the text of a list's item as a list of one text; the empty list for null and `[]`, and `None` for any other
+-- JSON value
 abbrev pub text_item : Data → Option (List (List ℕ))
 text_item d = if is_absent d then Some [] else option_map (λ text. text ∷ []) (as_str d)
 
@@ -43,7 +44,7 @@ text_item d = if is_absent d then Some [] else option_map (λ text. text ∷ [])
 unfoldable pub texts_given : Option Data → Result (List (List ℕ)) Refusal
 texts_given given = ok_or (if_given (λ d. collected text_item (listed (as_array d) d)) given) MessageValue
 
--- the arrangement of the search
+-- the sorting and paging of the search, or the refusal `MessageValue` if a value isn't allowed
 unfoldable pub arrangement_in : Kind → Members → Result Arrangement Refusal
 arrangement_in kind ms = do
   sort_by ← text_given (given_named (codes "sortBy") ms)
@@ -52,7 +53,8 @@ arrangement_in kind ms = do
   count ← integer_given (given_named (codes "count") ms)
   arranged kind sort_by sort_order start_index count
 
--- the arrangement of the search; the refusal `MessageValue` if its filter is given but isn't a text
+-- the sorting and paging of the search; the refusal `MessageValue` if the filter is given but isn't a text,
+-- or if another value isn't allowed
 unfoldable pub words_in : Kind → Members → Result Arrangement Refusal
 words_in kind ms = text_given (given_named (codes "filter") ms) >>= λ filter. arrangement_in kind ms
 
@@ -63,7 +65,8 @@ lists_in ms = do
   excluded ← texts_given (given_named (codes "excludedAttributes") ms)
   Ok (record { attributes = attributes; excluded = excluded })
 
--- the settings of the search: everything but the filter
+-- the attribute lists, sorting and paging of the search, or the refusal `MessageValue` if a value isn't
+-- allowed
 unfoldable pub settings_in : Kind → Members → Result Settings Refusal
 settings_in kind ms = do
   arrangement ← words_in kind ms

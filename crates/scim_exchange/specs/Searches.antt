@@ -11,7 +11,7 @@ use Rattle.scim_exchange.specs.declared.paging.Arrangement.{Arrangement}
 use Rattle.scim_exchange.specs.Refused.{◌>>=◌}
 use Rattle.scim_exchange.specs.AttributeLists.{Lists, one_of, Wants}
 
--- the settings of a search: everything but the filter
+-- the settings of a search: its attribute lists, sorting and paging
 pub record Settings : Type 0 where
   pub lists : Lists
   pub arrangement : Arrangement
@@ -26,8 +26,8 @@ pub record Search : Type 0 where
 abbrev pub is_blank : List ℕ → Bool
 is_blank text = list_all (λ b. b == 32) text
 
--- the filter in a text; `None` if the text is blank or isn't given, and the refusal `Filter` if it isn't
--- valid (RFC 7644 section 3.4.2.2)
+-- the filter in a text; `None` if the text is blank or isn't given, and the refusal `Filter` if the text
+-- isn't a valid filter (RFC 7644 section 3.4.2.2)
 unfoldable pub filter_of : Kind → Option (List ℕ) → Result (Option Tree) Refusal
 filter_of kind None = Ok None
 filter_of kind (Some text) = if is_blank text then Ok None else ok_or (option_map Some (filter_in kind text)) Filter
@@ -42,15 +42,15 @@ pub record Sought : Type 0 where
 abbrev pub sought_with : Option Tree → Settings → Result Sought Refusal
 sought_with filter settings = one_of settings.lists >>= λ lists. Ok (record { filter = filter; settings = settings })
 
--- the search after parsing, or its refusal; an invalid filter is refused before any other invalid value
+-- the search after parsing, or the refusal of an invalid value; an invalid filter is refused first
 abbrev pub sought : Kind → Search → Result Sought Refusal
 sought kind search = filter_of kind search.filter >>= λ filter. search.settings >>= λ settings. sought_with filter settings
 
--- the search after parsing, or its refusal if it couldn't be read
+-- the search after parsing; the refusal if the search couldn't be read or has an invalid value
 abbrev pub sought_of : Kind → Result Search Refusal → Result Sought Refusal
 sought_of kind search = search >>= sought kind
 
--- the query has the filter, arrangement and attributes of the search
+-- the query has the filter, sorting, paging and attributes of the search
 pub record IsQuery (kind : Kind) (s : Sought) (query : Query) : Type 0 where
   pub filter : option_map tree_of query.filter ≡ s.filter
   pub sort_by : query.sort_by ≡ s.settings.arrangement.sort_by

@@ -190,16 +190,16 @@ fn change(
 
 /// Reads what a request asks for, from its route's query string and its body.
 ///
-/// Requests for one resource, and those that create, replace, patch or remove one, use only the attribute
-/// lists of the query string (RFC 7644 section 3.9). A GET of a list uses all of it (section 3.4.2). A posted
-/// search uses only its body (section 3.4.3). The body is read only for create, replace, patch and posted
+/// Requests that get, create, replace, patch or remove one resource use only the attribute lists of the
+/// query string (RFC 7644 section 3.9). A GET of a list uses the whole query string (section 3.4.2). A posted
+/// search uses only the body (section 3.4.3). The body is read only for create, replace, patch and posted
 /// searches.
 ///
 /// Parameters and keys match in any ASCII case. An attribute list whose texts name no attribute counts as
-/// given: if `attributes` names none, the client gets only the attributes that are always returned. A list
-/// without a text counts as not given; in a query string, blank parts of a list are dropped. A blank filter
-/// and a `sortBy` that names no leaf count as not given. A `startIndex` that is missing or below 1 counts as
-/// 1. A `count` below 0 counts as 0, a `count` above 200 as 200, and a missing `count` as 100.
+/// given: if `attributes` names no attribute, the client gets only the attributes that are always returned. A
+/// list without a text counts as not given; in a query string, blank parts of a list are dropped. A blank
+/// filter and a `sortBy` that names no leaf count as not given. A `startIndex` that is missing or below 1
+/// counts as 1. A `count` below 0 counts as 0, a `count` above 200 as 200, and a missing `count` as 100.
 ///
 /// Fails with the first of these refusals that applies:
 ///
@@ -207,8 +207,8 @@ fn change(
 ///   two spellings;
 /// - `Filter`: the filter is invalid;
 /// - `Path`: a path of a patch is invalid or names no attribute;
-/// - `MessageValue`: another value has the wrong type or isn't allowed for its parameter, both attribute
-///   lists are given, or the body isn't a valid draft.
+/// - `MessageValue`: any other value has the wrong type or isn't allowed for its parameter, both
+///   attribute lists are given, or the body isn't a valid draft.
 pub fn ask(alloc: Global, route: &Route<'_>, body: &[u8]) -> Result<Ask, Failed<Refusal>>
     ensures { UnlessMemory (Asks route.now body.now) result }
 {

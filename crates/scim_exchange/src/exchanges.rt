@@ -48,7 +48,8 @@ fn asked(alloc: Global, route: &Route<'_>, body: &[u8]) -> Result<Result<Ask, Re
     }
 }
 
-/// Returns the service's input for the client's message: the request, the time and the id for a new resource.
+/// Returns the input of the service for a message of `client`: the request, the time and the id for a new
+/// resource.
 fn turn_of(
     alloc: Global,
     client: &str,
@@ -111,8 +112,8 @@ fn page_answer(alloc: Global, page: DiscoveryPage, query: Option<&[u8]>) -> Answ
     }
 }
 
-/// Answers a request for resources: refuses it with `NoToken` if it has no known client, and otherwise calls
-/// the service. If memory runs out before the call, the answer is the refusal `Store`.
+/// Answers a request for resources: calls the service, or refuses the request with `NoToken` if
+/// `arrival.client` is `None`. If memory runs out before the call, the answer is the refusal `Store`.
 fn served<S: Shelf>(
     alloc: Global,
     service: &mut Service<S>,

@@ -56,8 +56,8 @@ fn most_shown(count: Option<i64>) -> usize
     }
 }
 
-/// Returns the arrangement that the parameters of a search select. Fails with `MessageValue` if `sort_order`
-/// is neither `ascending` nor `descending`.
+/// Returns the sorting and paging that the parameters of a search select. Fails with `MessageValue` if
+/// `sort_order` is neither `ascending` nor `descending`.
 pub(crate) fn arranged(
     kind: Kind,
     sort_by: Option<&str>,

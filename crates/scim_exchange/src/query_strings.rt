@@ -64,7 +64,7 @@ pub(crate) fn lists_of(
     })
 }
 
-/// Whether a text begins with `+`. A number in a parameter must not, although `parse` accepts it.
+/// Whether a text begins with `+`. Such a number isn't allowed in a parameter, although `parse` accepts it.
 fn starts_with_plus(text: &str) -> bool
     ensures { result ≡ (slice_index text.now 0 == 43) }
 {
@@ -98,8 +98,8 @@ fn integer_of(text: Option<&str>) -> Result<Option<i64>, Refusal>
     }
 }
 
-/// Returns the arrangement that the parameters ask for. Fails with `MessageValue` if a value isn't allowed
-/// for its parameter.
+/// Returns the sorting and paging that the parameters ask for. Fails with `MessageValue` if a value isn't
+/// allowed for its parameter.
 #[tactic(auto, unfolding(crate::specs::QueryStrings::arrangement_of))]
 fn arrangement_of(kind: Kind, parameters: &Parameters) -> Result<Arrangement, Refusal>
     ensures { result ≡ spec.arrangement_of kind parameters.now }
@@ -111,7 +111,7 @@ fn arrangement_of(kind: Kind, parameters: &Parameters) -> Result<Arrangement, Re
     arranged(kind, sort_by, sort_order, start_index, count)
 }
 
-/// Returns the settings of the search: everything but the filter.
+/// Returns the settings of the search: its attribute lists, sorting and paging.
 ///
 /// Fails with `MessageValue` if a value isn't allowed for its parameter.
 #[tactic(auto, unfolding(crate::specs::QueryStrings::settings_of))]

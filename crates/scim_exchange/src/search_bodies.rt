@@ -70,7 +70,8 @@ fn integer_given(members: &[Member<'_>], name: &str) -> Result<Option<i64>, Refu
 
 /// Appends the text of a list's item; null and `[]` append nothing.
 ///
-/// Fails with `MessageValue` if the item is another JSON value. After an error `texts` is unchanged.
+/// Fails with `MessageValue` if the item is neither a text nor null nor `[]`. After an error `texts` is
+/// unchanged.
 fn add_item<'r>(value: &Tree<'r>, texts: &mut Vec<&'r str>) -> Result<(), Failed<Refusal>>
     ensures given { OnOk result (after (texts_in texts.old) (spec.text_item (view value.now))
         ≡ Some (texts_in texts.new)) }
@@ -90,7 +91,7 @@ fn add_item<'r>(value: &Tree<'r>, texts: &mut Vec<&'r str>) -> Result<(), Failed
 
 /// Returns the texts of a list's items, without the items that are null or `[]`.
 ///
-/// Fails with `MessageValue` if an item is another JSON value.
+/// Fails with `MessageValue` if an item is neither a text nor null nor `[]`.
 fn texts_of<'r>(alloc: Global, items: &[Tree<'r>]) -> Result<Vec<&'r str>, Failed<Refusal>>
     ensures given { IfOk result (λ v. collected spec.text_item (items_list (items_view items.now))
         ≡ Some (texts_in v)) }
@@ -105,7 +106,8 @@ fn texts_of<'r>(alloc: Global, items: &[Tree<'r>]) -> Result<Vec<&'r str>, Faile
 
 /// Returns the texts of a value, which is a list of texts or a single text; null and `[]` add no text.
 ///
-/// Fails with `MessageValue` if the value or an item of the list is another JSON value.
+/// Fails with `MessageValue` if the value is none of these, or if an item of the list is neither a text nor
+/// null nor `[]`.
 fn texts_in_value<'r>(alloc: Global, value: &Tree<'r>) -> Result<Vec<&'r str>, Failed<Refusal>>
     ensures given { IfOk result
         (λ v. collected spec.text_item (listed (as_array (view value.now)) (view value.now))
@@ -137,7 +139,8 @@ fn texts_given<'r>(
     }
 }
 
-/// Returns the arrangement of the search. Fails with `MessageValue` if a value isn't allowed for its key.
+/// Returns the sorting and paging of the search. Fails with `MessageValue` if a value isn't allowed for its
+/// key.
 #[tactic(auto, unfolding(crate::specs::SearchBodies::arrangement_in))]
 fn arrangement_in(kind: Kind, members: &[Member<'_>]) -> Result<Arrangement, Refusal>
     ensures { result ≡ spec.arrangement_in kind (members_view members.now) }
@@ -151,7 +154,7 @@ fn arrangement_in(kind: Kind, members: &[Member<'_>]) -> Result<Arrangement, Ref
 
 /// Returns the attribute lists of the search.
 ///
-/// Fails with `MessageValue` if the value of one is neither a text nor a list of texts.
+/// Fails with `MessageValue` if the value of an attribute list is neither a text nor a list of texts.
 #[tactic(auto, unfolding(crate::specs::SearchBodies::lists_in))]
 fn lists_in<'r>(
     alloc: Global,
@@ -168,7 +171,7 @@ fn lists_in<'r>(
     })
 }
 
-/// Returns the arrangement of the search, after a check that its filter, if given, is a text.
+/// Returns the sorting and paging of the search, after a check that its filter, if given, is a text.
 ///
 /// Fails with `MessageValue` if the filter isn't a text or another value isn't allowed for its key.
 #[tactic(auto, unfolding(crate::specs::SearchBodies::words_in))]
@@ -179,7 +182,7 @@ fn words_in(kind: Kind, members: &[Member<'_>]) -> Result<Arrangement, Refusal>
     arrangement_in(kind, members)
 }
 
-/// Returns the settings of the search: everything but the filter.
+/// Returns the settings of the search: its attribute lists, sorting and paging.
 ///
 /// Fails with `MessageValue` if a value isn't allowed for its key.
 #[tactic(auto, unfolding(crate::specs::SearchBodies::settings_in))]

@@ -18,7 +18,7 @@ use scim_schema::Kind;
 use scim_text::Failed;
 use std::alloc::Global;
 
-/// The settings of a search: everything but the filter.
+/// The settings of a search: its attribute lists, sorting and paging.
 #[derive(Drop)]
 pub(crate) struct Settings<'r> {
     pub(crate) lists: AttributeLists<'r>,

@@ -1,4 +1,4 @@
--- Rules that can never decide, since an earlier rule covers all that they cover.
+-- Rules that can never decide, because an earlier rule without a target covers everything that they cover.
 use Rattle.std.specs.Prelude.{ℕ, ◌+◌, ◌-◌, Bool, true, false, ◌&&◌, ◌==◌, List, ◌++◌, length, take, nat_eq, codes, decimal, Option, option_map, position}
 use Rattle.std.specs.List.{list_any, list_all, filter_map, flat_map, enumerate_from}
 use Rattle.std.specs.Cmp.Lexicographic.{pointwise}
@@ -42,20 +42,20 @@ are_covered covers others xs = list_all (λ x. list_any (λ y. covers y x) other
 abbrev pub covers_on_kind : Rule → Rule → Kind → Bool
 covers_on_kind e r k = are_covered covers_path (paths_on k e.paths) (paths_on k r.paths)
 
--- whether a rule has no target and covers the clients, operations and kinds of another rule, and its paths
--- on each of its kinds
+-- whether the first rule has no target, covers the clients, operations and kinds of the second rule, and
+-- covers the paths of the second rule on each kind of the second rule
 abbrev pub covers_rule : Rule → Rule → Bool
 covers_rule e r =
     (length e.targets == 0)
     && (are_covered covers_client e.clients r.clients
     && (are_covered (sameb the_op) e.ops r.ops && (are_covered (sameb the_kind) e.kinds r.kinds && list_all (covers_on_kind e r) r.kinds)))
 
--- the entry for the rule with this number, which follows the earlier rules: it has the number of the first of
--- them that covers the rule; None if none of them covers it
+-- the entry for the rule with this number, with the number of the first earlier rule that covers the rule;
+-- None if no earlier rule covers the rule
 abbrev pub idle_behind : List Rule → ℕ → Rule → Option IdleRule
 idle_behind earlier number r = option_map (λ i. record { rule = number; covered_by = i + 1 }) (position (λ e. covers_rule e r) earlier)
 
--- the rules of a policy that an earlier rule covers, in order
+-- the entries for the rules of a policy that an earlier rule covers, in order
 abbrev pub idle_rules : List Rule → List IdleRule
 idle_rules policy = filter_map (λ (numbered : ℕ × Rule). idle_behind (take (numbered.0 - 1) policy) numbered.0 numbered.1) (enumerate_from 1 policy)
 

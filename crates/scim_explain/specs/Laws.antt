@@ -19,8 +19,8 @@ TellsOfEachEarlierRule =
     (policy : List Rule) (client : List ℕ) (op : Op) (c : Content) (l : Leaf)
     → length (explained policy client op c l).misfits ≡ (let e = explained policy client op c l in if e.decision.rule == 0 then length policy else e.decision.rule - 1)
 
--- an explanation has, in order, the misfit of each rule before the deciding one, or of every rule if
--- none decides
+-- the misfits of an explanation are, in order, the misfits of the rules before the deciding rule, or of all
+-- rules if none decides
 abbrev pub TellsTheMisfitOfEach : Type 0
 TellsTheMisfitOfEach =
     (policy : List Rule) (client : List ℕ) (op : Op) (c : Content) (l : Leaf)

@@ -11,7 +11,7 @@ use Rattle.scim_policy.specs.Rules.{Rule}
 use Rattle.scim_policy.specs.Decide.{decide}
 use Rattle.scim_explain.specs.Texts.{effect_word}
 
--- the line of a leaf: its path, the rule that decides, and `allow` or `deny`
+-- the line of a leaf: its path, the number of the deciding rule or 0, and `allow` or `deny`
 abbrev pub decision_line : Leaf → Decision → List ℕ
 decision_line l d = leaf_path l ++ codes " rule " ++ decimal d.rule ++ codes " " ++ effect_word d.allow ++ codes "\n"
 

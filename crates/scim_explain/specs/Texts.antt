@@ -17,11 +17,11 @@ misfit_word misfit.Target = codes "target"
 abbrev pub effect_word : Bool → List ℕ
 effect_word allow = if allow then codes "allow" else codes "deny"
 
--- the line for a rule: its number and a word or sentence about it
+-- the line for the rule with this number: `rule N: `, a word or sentence about the rule, and a line feed
 abbrev pub rule_line : ℕ → List ℕ → List ℕ
 rule_line number word = codes "rule " ++ decimal number ++ codes ": " ++ word ++ codes "\n"
 
--- a line for each misfit, with the rules numbered from `first`
+-- a line for each misfit; the first misfit is of the rule with the number `first`, the next of the next rule
 abbrev pub misfit_lines : ℕ → List Misfit → List ℕ
 misfit_lines first misfits = flat_map (λ (numbered : ℕ × Misfit). rule_line numbered.0 (misfit_word numbered.1)) (enumerate_from first misfits)
 

@@ -13,9 +13,9 @@ use std::alloc::Global;
 
 /// Prints the policy's decisions on the client's operation on the resource.
 ///
-/// Prints a line for each leaf of the resource's kind, in order: the path as in policy files, the number of
-/// the deciding rule or 0, and `allow` or `deny`, such as `userName rule 3 allow`. The decision table is
-/// computed once.
+/// Prints a line for each leaf of the resource's kind, in order: the path of the leaf as in policy files, the
+/// number of the deciding rule or 0, and `allow` or `deny`, such as `userName rule 3 allow`. The decision
+/// table is computed once.
 pub fn table(
     alloc: Global,
     policy: &Policy,
@@ -43,7 +43,7 @@ fn decision_lines(alloc: Global, decisions: &Decisions, leaves: &[Leaf]) -> Resu
     Ok(text)
 }
 
-/// Prints the line for a leaf, with a line feed at its end.
+/// Prints the line for a leaf and the decision on it, with a line feed at the end.
 fn decision_line(alloc: Global, leaf: Leaf, decision: Decision) -> Result<String, NoMemory>
     ensures { IfOk result (λ line. string_bytes line ≡ spec.decision_line leaf decision) }
 {

@@ -9,10 +9,11 @@ use scim_value::Resource;
 use std::alloc::Global;
 use std::marker::Model;
 
-/// A decision with its reason: for each rule before the one that decided, the first part that doesn't fit.
+/// A decision with its reason: for each rule before the one that decided, the first part of the rule that
+/// doesn't fit (its misfit).
 ///
-/// If no rule decided, there is a misfit for every rule. In contracts it is the list of misfits and the
-/// decision.
+/// If no rule decided, there is a misfit for every rule. In contracts an explanation is the list of misfits
+/// and the decision.
 #[derive(Drop)]
 pub struct Explanation {
     misfits: Vec<Misfit>,

@@ -4,7 +4,7 @@ ghost use Rattle.scim_explain.specs.Laws as law;
 /// An explanation has exactly one misfit for each rule before the one that decided, or for each rule if
 /// none decided.
 ///
-/// The misfit is the first part of the rule that doesn't fit, and none of these rules fits.
+/// Each misfit is the first part of its rule that doesn't fit, and none of these rules fits.
 pub fn each_earlier_rule_has_its_misfit()
     ensures as_many { law.TellsOfEachEarlierRule }
     ensures own { law.TellsTheMisfitOfEach }

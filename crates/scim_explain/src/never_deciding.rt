@@ -12,20 +12,21 @@ use scim_schema::{Kind, Op};
 use scim_text::{NoMemory, push};
 use std::alloc::Global;
 
-/// A rule that can never decide, since an earlier rule without a target covers all that it covers.
+/// A rule that can never decide, because an earlier rule without a target covers everything that this rule
+/// covers.
 #[derive(Clone, Copy, PartialEq, Eq)]
 pub struct IdleRule {
     /// The rule's number, from 1.
     pub rule: u32,
-    /// The number of the first rule without a target that covers all that it covers.
+    /// The number of the first rule without a target that covers everything that the idle rule covers.
     pub covered_by: u32,
 }
 
 /// Finds the rules that can never decide, in order of their numbers.
 ///
-/// They are the rules for which one earlier rule without a target covers the clients, the operations, the
-/// types and, on each type, the paths. Other idle rules aren't found, such as one that is only covered
-/// by two rules together, or one whose target matches no resource.
+/// A rule is found if a single earlier rule without a target covers its clients, operations and types and, on
+/// each of its types, its paths. Other rules that never decide aren't found, such as a rule that is only
+/// covered by two rules together, or a rule whose target matches no resource.
 ///
 /// Each rule is compared with all rules before it, which takes quadratic time; a policy has at most
 /// 1,000 rules.
@@ -42,7 +43,8 @@ pub fn idle_rules(alloc: Global, policy: &Policy) -> Result<Vec<IdleRule>, NoMem
     Ok(idle)
 }
 
-/// The entry for `rule`, which follows the `earlier` rules. `None` if none of them covers it.
+/// The entry for `rule`, which follows the `earlier` rules. `None` if none of the `earlier` rules covers
+/// `rule`.
 fn idle_behind(earlier: &[Rule], rule: &Rule) -> Option<IdleRule>
     requires { length earlier.now < 1000 }
     ensures { result ≡ spec.idle_behind earlier.now (length earlier.now + 1) rule.now }
@@ -54,14 +56,15 @@ fn idle_behind(earlier: &[Rule], rule: &Rule) -> Option<IdleRule>
     })
 }
 
-/// The index of the first rule without a target that covers all that `rule` covers. `None` if there is none.
+/// The index of the first of `rules` that has no target and covers everything that `rule` covers. `None` if
+/// there is no such rule.
 fn first_covering(rules: &[Rule], rule: &Rule) -> Option<usize>
     ensures { result ≡ position (λ e. spec.covers_rule e rule.now) rules.now }
 {
     rules.iter().position(|earlier| covers_rule(earlier, rule))
 }
 
-/// Whether `earlier` has no target and covers all that `rule` covers.
+/// Whether `earlier` has no target and covers everything that `rule` covers.
 fn covers_rule(earlier: &Rule, rule: &Rule) -> bool
     ensures { result ≡ spec.covers_rule earlier.now rule.now }
 {

@@ -7,7 +7,7 @@ use scim_policy::Misfit;
 use scim_text::NoMemory;
 use std::alloc::Global;
 
-/// The word for the part of a rule that doesn't fit.
+/// The word for the part of a rule that doesn't fit, such as `client` or `path`.
 fn misfit_word(misfit: Misfit) -> &'static str
     ensures { result.now ≡ spec.misfit_word misfit }
 {
@@ -27,14 +27,14 @@ pub fn effect_word(allow: bool) -> &'static str
     if allow { "allow" } else { "deny" }
 }
 
-/// The line `rule N: ` with a word or sentence about the rule, and a line feed.
+/// The line `rule N: WORD` with a line feed at its end. `word` is a word or sentence about the rule.
 pub fn rule_line(alloc: Global, number: usize, word: &str) -> Result<String, NoMemory>
     ensures { IfOk result (λ line. string_bytes line ≡ spec.rule_line number word.now) }
 {
     Ok(format!(in alloc; "rule {number}: {word}\n")?)
 }
 
-/// Prints a line for each misfit, with the rules numbered from 1.
+/// Prints a line for each misfit. The first misfit is of rule 1, the second of rule 2, and so on.
 fn misfit_lines(alloc: Global, misfits: &[Misfit]) -> Result<String, NoMemory>
     ensures { IfOk result (λ text. string_bytes text ≡ spec.misfit_lines 1 misfits.now) }
 {
@@ -48,9 +48,9 @@ fn misfit_lines(alloc: Global, misfits: &[Misfit]) -> Result<String, NoMemory>
 
 /// Prints an explanation, each entry on a line.
 ///
-/// For each rule before the one that decided, or for each rule if none decided: `rule N: ` and the part
-/// that doesn't fit, `client`, `op`, `type`, `path` or `target`. On the last line: the number of
-/// the rule that decided, or 0, with `allow` or `deny`.
+/// Each rule before the one that decided, or each rule if none decided, has a line with `rule N: ` and the
+/// part that doesn't fit: `client`, `op`, `type`, `path` or `target`. The last line has `rule N: ` with the
+/// number of the rule that decided, or 0, and `allow` or `deny`.
 pub fn print(alloc: Global, explanation: &Explanation) -> Result<String, NoMemory>
     ensures { IfOk result (λ text. string_bytes text ≡ spec.explanation_text explanation.now) }
 {

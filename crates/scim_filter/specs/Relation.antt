@@ -37,7 +37,7 @@ text_stands Sw a b = starts_with nat_eq a b
 text_stands Ew a b = ends_with nat_eq a b
 text_stands op a b = is_ordered op (slice_cmp nat_cmp a b)
 
--- the text in the form in which it is compared: unchanged if case matters, else case-folded
+-- the text to compare: unchanged if case matters, else case-folded
 abbrev pub cased : Bool → List ℕ → List ℕ
 cased true text = text
 cased false text = folded text
@@ -54,7 +54,8 @@ truth_stands Eq a (Some b) = same_truth a b
 truth_stands Ne a (Some b) = not (same_truth a b)
 truth_stands _ _ _ = false
 
--- the order of a moment and the date and time in a literal: by second, and a fraction makes the literal later
+-- the order of a moment and the date and time in a literal: by second; in the same second, the literal is
+-- later if it has a fraction of a second
 abbrev pub moment_cmp : ℕ → Reading → Ordering
 moment_cmp m r = ordering_then (int_cmp (pos m) r.second) (bool_cmp false r.later)
 

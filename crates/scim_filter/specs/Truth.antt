@@ -39,7 +39,8 @@ abbrev pub is_unlike : Operator → Bool → Bool
 is_unlike Ne present = not present
 is_unlike _ present = false
 
--- whether the comparison holds for a cell of the leaf, or the leaf has no cell and the operator is `ne`
+-- whether a cell of the leaf satisfies the comparison, or the operator is `ne` and there is no leaf or no
+-- cell of this leaf
 abbrev pub leaf_compares : Option Leaf → Operator → Literal → List Row → Bool
 leaf_compares None op x rs = is_unlike op false
 leaf_compares (Some leaf) op x rs = is_unlike op (some_atom (λ a. true) leaf rs) || some_atom (λ a. stands (is_case_exact leaf) op a x) leaf rs
@@ -50,12 +51,13 @@ compares m Eq literal.Null rs = not (is_present m rs)
 compares m Ne literal.Null rs = is_present m rs
 compares m op x rs = leaf_compares (compared_leaf m) op x rs
 
--- whether the test is true at some position of the attribute; a single-valued attribute has one position
+-- whether some value of the attribute passes the test; a single-valued attribute is tested once, even if it
+-- has no rows; false if the name isn't an attribute
 abbrev pub some_position : (List Row → Bool) → Meant → List Row → Bool
 some_position holds (meant.Attribute a) rs = if is_multi_valued a then list_any (λ (r : Row). holds (r ∷ [])) (attribute_rows a rs) else holds (attribute_rows a rs)
 some_position holds _ rs = false
 
--- whether a filter matches rows
+-- whether a filter matches the cells of these rows
 abbrev pub truth : Tree → List Row → Bool
 truth (Or a b) rs = truth a rs || truth b rs
 truth (And a b) rs = truth a rs && truth b rs
@@ -64,7 +66,8 @@ truth (Present path) rs = is_present path.meant rs
 truth (Compare path op x) rs = compares path.meant op x rs
 truth (Values path inner) rs = some_position (truth inner) path.meant rs
 
--- the rows of an attribute at a position, counted from 0
+-- the rows with the value of an attribute at a position, counted from 0; a single-valued attribute has only
+-- position 0
 abbrev pub rows_at : Meant → ℕ → List Row → List Row
 rows_at (meant.Attribute a) k rs = if is_multi_valued a then take 1 (drop k (attribute_rows a rs)) else if k == 0 then attribute_rows a rs else []
 rows_at _ k rs = []

@@ -73,8 +73,8 @@ fn truths_stand(op: Operator, a: bool, b: Option<bool>) -> bool
     }
 }
 
-/// Compares a moment, in whole seconds, with the date and time in a literal. A fraction of a second makes the
-/// literal later.
+/// Compares a moment, in whole seconds, with the date and time in a literal. A literal in the same second is
+/// later if it has a fraction of a second.
 fn compare_moments(moment: Moment, reading: Reading) -> Ordering
     ensures { result ≡ spec.moment_cmp moment reading }
 {

@@ -1,4 +1,4 @@
-//! Evaluates filters on the cells of a part (RFC 7644 section 3.4.2.2).
+//! Evaluates filters on the cells of a part of a resource (RFC 7644 section 3.4.2.2).
 ghost use Rattle.std.specs.Prelude.{◌≡◌, ◌&&◌, ◌∷◌, [], IfOk, true, take, drop};
 ghost use Rattle.std.specs.List.{list_any};
 ghost use Rattle.scim_schema.specs.Units.{is_same_leaf};
@@ -32,7 +32,7 @@ enum Cells<'a> {
 }
 
 impl<'a> Cells<'a> {
-    /// Rows that include all rows of `attribute` in these cells.
+    /// Returns all rows of `attribute` in these cells, and possibly rows of other attributes.
     #[tactic(auto, using(crate::proofs::RowLemmas::none_of_another))]
     fn around(self, attribute: Attribute) -> &'a [Row]
         ensures { attribute_rows attribute result.now
@@ -98,7 +98,7 @@ fn is_present<T: RowTest>(look: &Look<'_, T>, meant: Meant, cells: Cells<'_>) ->
     }
 }
 
-/// Whether the filter sees a cell of the leaf in the row that satisfies the comparison.
+/// Whether one of the leaf's cells that the filter sees in the row satisfies the comparison.
 fn fields_stand<T: RowTest>(
     alloc: Global,
     look: &Look<'_, T>,
@@ -123,7 +123,7 @@ fn fields_stand<T: RowTest>(
     Ok(false)
 }
 
-/// Whether the filter sees a cell of the leaf in the rows that satisfies the comparison.
+/// Whether one of the leaf's cells that the filter sees in the rows satisfies the comparison.
 fn leaf_stands<T: RowTest>(
     alloc: Global,
     look: &Look<'_, T>,
@@ -252,7 +252,7 @@ fn some_position_holds<T: RowTest>(
     }
 }
 
-/// Evaluates a node of a filter.
+/// Whether a node of a filter matches the cells.
 #[cycle(truth)]
 fn node_holds<T: RowTest>(
     alloc: Global,
@@ -322,9 +322,10 @@ pub fn holds(alloc: Global, filter: &Filter, part: &Part) -> Result<bool, NoMemo
     )
 }
 
-/// Whether a filter matches a part reduced to the fields that the test admits, as by [`Part::restrict`].
+/// Whether a filter matches the fields of a part that the test admits. Other fields, and values without an
+/// admitted field, count as absent.
 ///
-/// Values without an admitted field are skipped, and positions are counted without them. Nothing is copied.
+/// Returns the same as [`holds`] on the part reduced by [`Part::restrict`], but copies nothing.
 #[tactic(auto, unfolding(crate::specs::code::Looks::looked))]
 pub fn holds_where<T: RowTest>(
     alloc: Global,
@@ -358,8 +359,8 @@ pub fn holds_of(alloc: Global, filter: &Filter, value: &Row) -> Result<bool, NoM
     node_holds(alloc, &Look::<NoTest>::Everything, inner, cells)
 }
 
-/// Whether the filter in the brackets of a value path matches the value at a position of its attribute,
-/// counted from 0 (RFC 7644 sections 3.4.2.2 and 3.5.2).
+/// Whether the filter in the brackets of a value path matches the value at `position`, counted from 0, of the
+/// attribute before the brackets (RFC 7644 sections 3.4.2.2 and 3.5.2).
 ///
 /// The filter sees no cells at a position past the last value. False if `filter` isn't a value path.
 #[tactic(auto, unfolding(crate::specs::code::Looks::looked))]

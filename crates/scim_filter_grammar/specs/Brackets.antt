@@ -18,7 +18,7 @@ abbrev mutual
       if is_opening b then open_behind (suc n) bs else
       if is_closing b then open_behind (pred n) bs else open_behind n bs
 
-  -- the number of open brackets after a text that begins within a string
+  -- the number of open brackets after a text that begins within a string, if n are open before it
   pub open_string : ℕ → List ℕ → ℕ
   open_string n [] = n
   open_string n (b ∷ bs) = if b == 34 then open_behind n bs else if b == 92 then open_escaped n bs else open_string n bs

@@ -7,7 +7,7 @@ use Rattle.std.specs.Str.{bytes_eq}
 abbrev pub is_space : ℕ → Bool
 is_space b = b == 32
 
--- whether the byte may be part of a word: no space, quote or bracket
+-- whether the byte may be part of a word: any byte except a space, a quote or a bracket
 abbrev pub is_word_byte : ℕ → Bool
 is_word_byte b = not (b == 32 || b == 34 || b == 40 || b == 41 || b == 91 || b == 93)
 

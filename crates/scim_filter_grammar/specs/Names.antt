@@ -47,7 +47,7 @@ abbrev pub path_text : Option (List ℕ) → List ℕ → List ℕ
 path_text None names = names
 path_text (Some urn) names = urn ++ 58 ∷ names
 
--- the text, if there is one, passes the test
+-- there is no text, or the text passes the test
 abbrev pub IsPassed : (List ℕ → Bool) → Option (List ℕ) → Type 0
 IsPassed test None = Unit {0}
 IsPassed test (Some text) = test text ≡ true
@@ -65,18 +65,20 @@ abbrev pub attribute_by : Kind → Option (List ℕ) → List ℕ → Option Att
 attribute_by kind None name = attribute_named kind name
 attribute_by kind (Some urn) name = option_and_then (λ s. attribute_named_in kind s name) (schema_named urn)
 
--- the sub-attribute of an attribute that a look-up found; Nothing if it found none
+-- what a path names if a look-up among the attribute's sub-attributes had this result: the sub-attribute, or
+-- Nothing for None
 abbrev pub sub_meant : Attribute → Option SubAttribute → Meant
 sub_meant a None = meant.Nothing
 sub_meant a (Some b) = meant.SubAttribute a b
 
--- the attribute, or its sub-attribute with this name if one is given; Nothing if it doesn't exist
+-- the attribute, or its sub-attribute with this name if a name is given; Nothing if the attribute or the
+-- sub-attribute doesn't exist
 abbrev pub meant_in : Option Attribute → Option (List ℕ) → Meant
 meant_in None sub = meant.Nothing
 meant_in (Some a) None = meant.Attribute a
 meant_in (Some a) (Some sub) = sub_meant a (sub_attribute_named a sub)
 
--- the attribute or sub-attribute that the names of a path refer to in a scope
+-- the attribute or sub-attribute that the names of a path refer to in a scope; Nothing if a name is unknown
 abbrev pub meant_by : Scope → Option (List ℕ) → List ℕ → Option (List ℕ) → Meant
 meant_by (Attributes kind) urn name sub = meant_in (attribute_by kind urn name) sub
 meant_by (SubAttributes a) urn name sub = meant_in a (Some name)

@@ -17,7 +17,7 @@ nothing_left w (b ∷ bs) = Err Syntax
 unfoldable pub ended_at : Written → List ℕ → Result Written Fault
 ended_at w bytes = nothing_left w (behind is_space bytes)
 
--- the value path read so far, with the sub-attribute that may follow its closing bracket
+-- the value path with this tree, and with the name of a sub-attribute if the bytes begin with a dot
 unfoldable pub sub_at : Tree → List ℕ → Result Written Fault
 sub_at tree bytes = if slice_index bytes 0 == 46 then (name_of (front is_word_byte (drop 1 bytes)) >>= λ name. ended_at (Filtered tree (Some name)) (behind is_word_byte (drop 1 bytes))) else ended_at (Filtered tree None) bytes
 
@@ -25,7 +25,7 @@ sub_at tree bytes = if slice_index bytes 0 == 46 then (name_of (front is_word_by
 unfoldable pub filtered_at : ℕ → Kind → AttributePath → List ℕ → Result Written Fault
 filtered_at depth kind path bytes = listed_at (filter_at depth) (Attributes kind) path bytes >>= λ x. sub_at x.0 x.1
 
--- the path, read from the bytes after its attribute path: a filter in brackets, or nothing
+-- the path, read from the bytes after its attribute path, which are a filter in brackets or nothing
 unfoldable pub behind_names_at : ℕ → Kind → AttributePath → List ℕ → Result Written Fault
 behind_names_at depth kind path bytes = if slice_index bytes 0 == 91 then filtered_at depth kind path (drop 1 bytes) else ended_at (Plain path) bytes
 

@@ -32,13 +32,14 @@ abbrev pub ◌>>=◌ : {A B : Type 0} → Result A Fault → (A → Result B Fau
 (Ok x) >>= f = f x
 (Err e) >>= f = Err e
 
--- the error that the code returned is NoMemory, or the fault of the specified reading
+-- the error that the code returned is NoMemory, or the fault that the specification returns
 abbrev pub Fails : {Y : Type 0} → Failed ReadError → Result Y Fault → Type 0
 Fails NoMemory read = Unit {0}
 Fails (Because (errors.Syntax left)) read = read ≡ Err Syntax
 Fails (Because errors.TooDeep) read = read ≡ Err TooDeep
 
--- the code returned NoMemory, or the specified result of reading, once `view` is applied to its value
+-- the code returned NoMemory, or the specified result; `view` converts a value of the code into a specified
+-- one
 abbrev pub Gives : {X Y : Type 0} → (X → Y) → Result X (Failed ReadError) → Result Y Fault → Type 0
 Gives view (Ok x) read = read ≡ Ok (view x)
 Gives view (Err e) read = Fails e read
@@ -51,16 +52,17 @@ Read A = Result (A × List ℕ) Fault
 abbrev pub Reader : Type 0
 Reader = List ℕ → Read Tree
 
--- the bytes before the last colon of a word, which must be a URN if there is a colon
+-- the bytes before the last colon of a word, if they are a URN, else Syntax; Ok None if there is no colon
 unfoldable pub urn_of : Option (List ℕ) → Result (Option (List ℕ)) Fault
 urn_of None = Ok None
 urn_of (Some urn) = if is_urn urn then Ok (Some urn) else Err Syntax
 
--- the word as a name
+-- the word, if it is a name, else Syntax
 unfoldable pub name_of : List ℕ → Result (List ℕ) Fault
 name_of name = if is_name name then Ok name else Err Syntax
 
--- the sub-attribute's name after an attribute's name: a dot and a name, or nothing
+-- the sub-attribute's name in the bytes after an attribute's name, which are empty or begin with a dot;
+-- Syntax if no name follows the dot
 unfoldable pub sub_of : List ℕ → Result (Option (List ℕ)) Fault
 sub_of [] = Ok None
 sub_of (dot ∷ sub) = name_of sub >>= λ name. Ok (Some name)
@@ -69,7 +71,7 @@ sub_of (dot ∷ sub) = name_of sub >>= λ name. Ok (Some name)
 abbrev pub path_for : Scope → Option (List ℕ) → List ℕ → Option (List ℕ) → AttributePath
 path_for scope urn name sub = record { urn = urn; name = name; sub_name = sub; meant = meant_by scope urn name sub }
 
--- the path with these names, if they may be combined so in the scope
+-- the path with these names, if the scope allows this URN and this sub-attribute, else Syntax
 abbrev pub path_with : Scope → Option (List ℕ) → List ℕ → Option (List ℕ) → Result AttributePath Fault
 path_with scope urn name sub = if fits_scope scope urn sub then Ok (path_for scope urn name sub) else Err Syntax
 
@@ -126,7 +128,7 @@ literal_at bytes = if slice_index bytes 0 == 34 then string_at bytes else do
   x ← word_literal (front is_word_byte bytes)
   Ok (x, behind is_word_byte bytes)
 
--- the tree, with the bytes after its closing bracket
+-- the tree and the bytes after the closing bracket; Syntax if the bytes don't begin with this bracket
 abbrev pub closing_at : ℕ → Tree → List ℕ → Read Tree
 closing_at close t [] = Err Syntax
 closing_at close t (b ∷ bs) = if b == close then Ok (t, bs) else Err Syntax
@@ -176,7 +178,8 @@ unfoldable pub term_at : (Scope → Reader) → Scope → Reader
 term_at filter scope bytes =
     if slice_index bytes 0 == 40 then enclosed_at 41 (filter scope) (drop 1 bytes) else worded_at filter scope bytes
 
--- the tree read first, joined with the tree of the remaining items if the keyword follows it
+-- the first tree joined with the tree that is read from the bytes after the keyword; the first tree alone if
+-- no keyword follows
 abbrev pub joined_at : Reader → (Tree → Tree → Tree) → Tree × List ℕ → Option (List ℕ) → Read Tree
 joined_at others join x None = Ok x
 joined_at others join x (Some rest) = mapped (join x.0) (others rest)

@@ -12,7 +12,7 @@ use Rattle.scim_filter_grammar.specs.Tree.{Tree}
 use Rattle.scim_filter_grammar.specs.Types.{fits}
 use Rattle.scim_filter_grammar.specs.WrittenPaths.{Written, IsWritten, Plain}
 
--- the tree, if its comparisons and value paths have the right types
+-- the tree, if there is one and its comparisons and value paths suit the types of their attributes
 abbrev pub fitting : Option Tree → Option Tree
 fitting None = None
 fitting (Some tree) = if fits tree then Some tree else None

@@ -19,15 +19,15 @@ Span = ℕ × ℕ
 abbrev pub spans : List Token → List Span
 spans ts = map (λ t. (t.start, t.end)) ts
 
--- the spans are the spans of all tokens in the remaining bytes of a text with `total` bytes
+-- the list has the spans of all tokens in the last bytes of a text with `total` bytes, in order
 pub data Tokens (total : ℕ) : List ℕ → List Span → Type 0 where
   done : Tokens total [] []
   space : {bs : List ℕ} {ts : List Span} → Tokens total bs ts → Tokens total (32 ∷ bs) ts
   token : {b : ℕ} {bs rest : List ℕ} {ts : List Span} → b ≢ 32 → past_token b bs ≡ Some rest → Tokens total rest ts
       → Tokens total (b ∷ bs) ((total - length (b ∷ bs), total - length rest) ∷ ts)
 
--- the remaining bytes of a text with `total` bytes have, after whole tokens, an unclosed string at this
--- position
+-- an unclosed string begins at this position of a text with `total` bytes; between the start of the given
+-- last bytes of the text and this position, there are only whole tokens and spaces
 pub data Unclosed (total : ℕ) : List ℕ → ℕ → Type 0 where
   here : {bs : List ℕ} → past_quote bs ≡ None → Unclosed total (34 ∷ bs) (total - length (34 ∷ bs))
   past_space : {bs : List ℕ} {at : ℕ} → Unclosed total bs at → Unclosed total (32 ∷ bs) at

@@ -33,7 +33,7 @@ abbrev pub leaf_for : Attribute → List SubAttribute → Option Leaf
 leaf_for a [] = Some (simple a)
 leaf_for a (b ∷ bs) = if list_any (sameb the_sub_attribute Value) (b ∷ bs) then Some (leaf_at a Value) else None
 
--- the leaf whose cells are compared or sorted by, if there is one
+-- the leaf whose cells a filter compares, or a search sorts by, if there is one
 abbrev pub compared_leaf : Meant → Option Leaf
 compared_leaf meant.Nothing = None
 compared_leaf (meant.Attribute a) = leaf_for a (sub_attributes a)
@@ -77,7 +77,7 @@ suits_leaf None op x = false
 suits_leaf (Some leaf) op x = suits (type_of leaf) op x
 
 -- whether a comparison suits the type of the named attribute or sub-attribute: null may only be tested with
--- `eq` and `ne`, and a name that the kind doesn't have may be compared with any other value
+-- `eq` and `ne`; any other value may be compared with a name that the kind doesn't have
 abbrev pub fits_comparison : Meant → Operator → Literal → Bool
 fits_comparison m op literal.Null = is_equality op
 fits_comparison meant.Nothing op x = true
@@ -88,8 +88,8 @@ abbrev pub is_empty : List SubAttribute → Bool
 is_empty [] = true
 is_empty (b ∷ bs) = false
 
--- whether a value path may be on the named attribute or sub-attribute; false for a simple attribute and for a
--- sub-attribute, since they have no sub-attributes
+-- whether brackets with a filter may follow the name of this attribute or sub-attribute; false for a simple
+-- attribute and for a sub-attribute, since they have no sub-attributes; true for an unknown name
 abbrev pub may_have_values : Meant → Bool
 may_have_values meant.Nothing = true
 may_have_values (meant.Attribute a) = not (is_empty (sub_attributes a))

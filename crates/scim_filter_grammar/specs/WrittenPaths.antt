@@ -14,7 +14,7 @@ pub data Written : Type 0 where
   Plain : AttributePath → Written
   Filtered : Tree → Option (List ℕ) → Written
 
--- the path in the form of the specification, without pointers
+-- the specified path that represents a path of the code
 abbrev pub written_of : WrittenPath → Written
 written_of (written.Plain path) = Plain path
 written_of (written.Filtered filter sub) = Filtered (tree_of filter) sub

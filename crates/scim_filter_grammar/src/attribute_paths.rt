@@ -91,8 +91,8 @@ pub(crate) fn name(word: &[u8]) -> Option<&str>
     }
 }
 
-/// Returns the bytes before a colon as a URN, or `Some(None)` if there is no colon. `None` if the bytes
-/// aren't a URN.
+/// Returns the bytes `before` a word's last colon as a URN. Returns `Some(None)` if the word has no colon,
+/// and `None` if the bytes aren't a URN.
 #[tactic(auto, unfolding(crate::specs::Reading::urn_of))]
 fn urn(before: Option<&[u8]>) -> Option<Option<&str>>
     ensures { ok_or (option_map (λ o. option_map (λ t. t.now) o) result) Syntax
@@ -110,8 +110,8 @@ fn urn(before: Option<&[u8]>) -> Option<Option<&str>>
     }
 }
 
-/// Returns the name after the dot: `Some(None)` if there is no dot, and `None` if what follows the dot isn't
-/// a name.
+/// Returns the name in `behind`, which is empty or begins with a dot. Returns `Some(None)` if `behind` is
+/// empty, and `None` if the bytes after the dot aren't a name.
 #[tactic(auto, unfolding(crate::specs::Reading::sub_of))]
 fn sub_name(behind: &[u8]) -> Option<Option<&str>>
     ensures { ok_or (option_map (λ o. option_map (λ t. t.now) o) result) Syntax
@@ -135,8 +135,8 @@ fn may_stand(scope: Scope, urn: Option<&str>, sub: Option<&str>) -> bool
     }
 }
 
-/// The attribute of `kind` with this name, in the schema with this URN if one is given. `None` if there is
-/// none.
+/// The attribute of `kind` with this name, in the schema with this URN if one is given. `None` if `kind` has
+/// no such attribute.
 fn attribute_of(kind: Kind, urn: Option<&str>, name: &str) -> Option<Attribute>
     ensures { result ≡ attribute_by kind (option_map (λ t. t.now) urn.entry) name.now }
 {
@@ -168,7 +168,8 @@ fn named_in(attribute: Option<Attribute>, sub: Option<&str>) -> Meant
     }
 }
 
-/// Returns the attribute or sub-attribute that the names of a path refer to in `scope`.
+/// Returns the attribute or sub-attribute that the names of a path refer to in `scope`. `Nothing` if a name
+/// is unknown.
 fn named(scope: Scope, urn: Option<&str>, name: &str, sub: Option<&str>) -> Meant
     ensures { result ≡ meant_by scope (option_map (λ t. t.now) urn.entry) name.now
         (option_map (λ t. t.now) sub.entry) }
@@ -204,7 +205,7 @@ fn parts(scope: Scope, word: &[u8]) -> Option<(Option<&str>, &str, Option<&str>)
     may_stand(scope, urn, sub).then_some((urn, name, sub))
 }
 
-/// Returns the attribute or sub-attribute that a path refers to. `None` if the word isn't a path.
+/// Returns the attribute or sub-attribute that `word` names as a path. `None` if `word` isn't a path.
 pub(crate) fn meant(scope: Scope, word: &[u8]) -> Option<Meant>
     ensures { result ≡ option_map (λ (path : AttributePath). path.meant)
         (result_ok (path_of scope word.now)) }
@@ -215,7 +216,7 @@ pub(crate) fn meant(scope: Scope, word: &[u8]) -> Option<Meant>
 
 /// Reads a whole word as a path.
 ///
-/// Fails with `Syntax(left)` if it isn't one; `left` is the number of unread bytes.
+/// Fails with `Syntax(left)` if `word` isn't a path; `left` is the number of unread bytes.
 pub(crate) fn path(
     alloc: Global,
     scope: Scope,

@@ -5,7 +5,7 @@ ghost use Rattle.std.specs.Prelude.{drop};
 ghost use Rattle.scim_filter_grammar.specs.Bytes.{is_space, is_word_byte, is_no_colon, front, behind, is_word, past_quote};
 ghost use Rattle.scim_filter_grammar.specs.code.Cuts.{is_no_dot, past_gap, past_join, names_in, urn_in};
 
-/// Whether the byte may be part of a word: no space, quote or bracket.
+/// Whether the byte may be part of a word: any byte except a space, a quote or a bracket.
 fn is_word_byte_at(byte: u8) -> bool
     ensures { result ≡ is_word_byte byte }
 {
@@ -137,7 +137,8 @@ pub fn skip_gap(bytes: &[u8]) -> Option<&[u8]>
     }
 }
 
-/// The bytes after a keyword with spaces on both sides. `None` if `bytes` doesn't begin with these.
+/// The bytes after the keyword and the spaces around it. `None` unless `bytes` begins with one or more
+/// spaces, the keyword, and one or more spaces.
 pub fn skip_join<'a>(keyword: &[u8], bytes: &'a [u8]) -> Option<&'a [u8]>
     ensures rest { option_map (λ r. r.now) result ≡ past_join keyword.now bytes.now }
     ensures shorter { IfSome result (λ r. length r.now < length bytes.now) }

@@ -189,7 +189,7 @@ fn term(
     }
 }
 
-/// The tree of a conjunction.
+/// Joins two trees by `and`.
 fn both(alloc: Global, first: Node, second: Node) -> Result<Node, Failed<ReadError>>
     ensures { Gives view result (Ok (And (view first) (view second))) }
 {
@@ -197,7 +197,7 @@ fn both(alloc: Global, first: Node, second: Node) -> Result<Node, Failed<ReadErr
     Ok(Node::And(first, Box::new(alloc, second)?))
 }
 
-/// The tree of a disjunction.
+/// Joins two trees by `or`.
 fn either(alloc: Global, first: Node, second: Node) -> Result<Node, Failed<ReadError>>
     ensures { Gives view result (Ok (Or (view first) (view second))) }
 {
@@ -249,9 +249,9 @@ fn disjunction(
     }
 }
 
-/// Reads a filter, with fewer than `depth` brackets open at one place.
+/// Reads a filter in which fewer than `depth` brackets are open at any place.
 ///
-/// Fails with `TooDeep` if `depth` or more are open.
+/// Fails with `TooDeep` if the reading reaches a place where `depth` or more are open.
 #[cycle(filter)]
 fn filter(
     alloc: Global,
@@ -283,17 +283,17 @@ fn all(alloc: Global, scope: Scope, bytes: &[u8]) -> Result<Node, Failed<ReadErr
 /// Reads a text as a filter on resources of `kind`, with at most 4,096 bytes and 32 open brackets (RFC 7644
 /// section 3.4.2.2).
 ///
-/// Fails with `Syntax` if the text isn't a filter, whatever the number of open brackets; its number hints at
-/// where reading stopped and is at most the length of the text. Fails with `WrongType` if a comparison
-/// doesn't suit the type of its attribute, or a value path is on an attribute without sub-attributes. Fails
-/// with `TooDeep` above 32 open brackets, and with `TooLong` above 4,096 bytes.
+/// Fails with `Syntax` if the text isn't a filter, unless more than 32 open brackets are reached first; the
+/// number in the error hints at where reading stopped and is at most the length of the text. Fails with
+/// `WrongType` if a comparison doesn't suit the type of its attribute, or a value path is on an attribute
+/// without sub-attributes. Fails with `TooDeep` above 32 open brackets, and with `TooLong` above 4,096 bytes.
 #[tactic(auto, using(crate::proofs::NestingLemmas::all_deep))]
 pub fn read_filter(alloc: Global, kind: Kind, text: &str) -> Result<Filter, Failed<FilterFault>>
-    // The text spells the tree returned, which has the right types.
+    // The text spells the returned tree, and each comparison in the tree suits the type of its attribute.
     ensures found { IfOk result (λ f. (length text.now ≤ LONGEST_FILTER)
         × IsFilter kind 32 text.now (tree_of f) × (fits (tree_of f) ≡ true)) }
-    // If the text spells a tree within the limits and with the right types, that tree or `NoMemory` is
-    // returned.
+    // If the text spells a tree within the limits and with the right types, the result is that tree or
+    // `NoMemory`.
     ensures only { (tree : Tree) → length text.now ≤ LONGEST_FILTER → IsFilter kind 32 text.now tree
         → fits tree ≡ true
         → MatchResult result (λ f. tree_of f ≡ tree) (λ e. e ≡ Failed.NoMemory) }

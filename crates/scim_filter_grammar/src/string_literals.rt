@@ -8,8 +8,8 @@ use scim_text::{NoMemory, Reading, fold, read_moment};
 use std::alloc::Global;
 use std::marker::Model;
 
-/// A string literal, with its folded text and its date and time, if it spells one, computed once for all
-/// comparisons. In contracts it is represented by its text.
+/// A string literal. The folded text, and the date and time that the text may spell, are computed once for
+/// all comparisons. Contracts represent the literal by its text.
 pub struct StringLiteral {
     text: Text,
     folded: Text,

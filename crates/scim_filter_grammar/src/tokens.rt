@@ -38,14 +38,15 @@ fn skip_token(first: u8, others: &[u8]) -> Option<&[u8]>
 
 /// Cuts a text into its tokens, in order: brackets, JSON strings, and runs of other bytes without spaces.
 ///
-/// Fails with `Syntax`, at the byte where the string begins, if a string isn't closed. Fails with `TooLong`
+/// Fails with `Syntax(at)` if a string isn't closed; the string begins at byte `at`. Fails with `TooLong`
 /// above 4,096 bytes.
 pub fn read_tokens<'a>(alloc: Global, text: &'a str) -> Result<Vec<Token<'a>>, Failed<FilterFault>>
-    // The tokens returned are all tokens of the text, in order, each with the text of its span.
+    // The result has all tokens of the text, in order, each with the part of the text from its start to its
+    // end.
     ensures found { IfOk result (λ v. (length text.now ≤ LONGEST_FILTER)
         × Tokens (length text.now) text.now (spans v.items)) }
     ensures slices { IfOk result (λ v. All (IsSlice text.now) v.items) }
-    // Syntax means that a string isn't closed at that byte, so the text has no list of tokens.
+    // On `Syntax`, an unclosed string begins at byte `at`, so the text can't be cut into tokens.
     ensures syntax { IfFault result (λ e. (at : ℕ) → e ≡ FilterFault.Syntax at
         → (at < length text.now) × ((ts : List Span) → ¬ (Tokens (length text.now) text.now ts))) }
     ensures unclosed { IfFault result (λ e. (at : ℕ) → e ≡ FilterFault.Syntax at

@@ -33,8 +33,8 @@ fn leaf_for(attribute: Attribute) -> Option<Leaf>
 }
 
 impl Meant {
-    /// The leaf whose cells are compared or sorted by: a simple attribute, a sub-attribute, or the `value` of
-    /// a complex attribute that is named alone (RFC 7644 sections 3.4.2.2 and 3.4.2.3).
+    /// The leaf whose cells a filter compares, or a search sorts by: a simple attribute, a sub-attribute, or
+    /// the `value` of a complex attribute that is named alone (RFC 7644 sections 3.4.2.2 and 3.4.2.3).
     ///
     /// `None` if a complex attribute has no `value`, or if the kind doesn't have the name.
     pub fn compared_leaf(self) -> Option<Leaf>
@@ -50,7 +50,7 @@ impl Meant {
     }
 }
 
-/// The boolean that a text spells, in any ASCII case.
+/// The boolean that a text spells, in any ASCII case. `None` if the text is neither `true` nor `false`.
 pub fn truth_of(text: &str) -> Option<bool>
     ensures { result ≡ spec.truth_in text.now }
 {
@@ -106,7 +106,7 @@ fn suits_leaf(leaf: Option<Leaf>, operator: Operator, literal: &Literal) -> bool
 }
 
 /// Whether a comparison suits the type of the named attribute or sub-attribute. null may only be compared by
-/// `eq` and `ne`. A name that the kind doesn't have may be compared with any other value.
+/// `eq` and `ne`. Any other value may be compared with a name that the kind doesn't have.
 fn fits_comparison(meant: Meant, operator: Operator, literal: &Literal) -> bool
     ensures { result ≡ spec.fits_comparison meant operator literal.now }
 {
@@ -120,8 +120,8 @@ fn fits_comparison(meant: Meant, operator: Operator, literal: &Literal) -> bool
     }
 }
 
-/// Whether a value path may be on the named attribute or sub-attribute. False for a simple attribute and for
-/// a sub-attribute, since they have no sub-attributes.
+/// Whether brackets with a filter may follow the name of this attribute or sub-attribute. False for a simple
+/// attribute and for a sub-attribute, since they have no sub-attributes. True for an unknown name.
 fn may_have_values(meant: Meant) -> bool
     ensures { result ≡ spec.may_have_values meant }
 {

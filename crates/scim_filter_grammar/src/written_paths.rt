@@ -21,7 +21,7 @@ use std::alloc::Global;
 pub enum WrittenPath {
     /// The path of an attribute or of a sub-attribute.
     Plain(AttributePath),
-    /// A value path, with the name of a sub-attribute after its brackets.
+    /// A value path, and the name of a sub-attribute after its brackets, if there is one.
     Filtered(Filter, Option<Text>),
 }
 
@@ -89,7 +89,7 @@ fn behind_names(
     }
 }
 
-/// Reads a path after leading spaces.
+/// Reads a path whose leading spaces are already skipped.
 #[tactic(auto, unfolding(crate::specs::PathReading::written_at))]
 fn written(alloc: Global, kind: Kind, bytes: &[u8]) -> Result<WrittenPath, Failed<ReadError>>
     ensures { Gives written_of result (written_at 32 kind bytes.now) }
@@ -104,7 +104,7 @@ fn written(alloc: Global, kind: Kind, bytes: &[u8]) -> Result<WrittenPath, Faile
 ///
 /// `None` if the text isn't a path within these limits.
 pub fn written_path(alloc: Global, kind: Kind, text: &str) -> Result<Option<WrittenPath>, NoMemory>
-    // The text spells the path returned.
+    // The text spells the returned path.
     ensures found { IfOk result (λ o. IfSome o (λ w. (length text.now ≤ LONGEST_FILTER)
         × IsWritten kind 32 text.now (written_of w))) }
     // If the text spells a path within the limits, that path is returned.

@@ -34,8 +34,8 @@ abbrev pub client_of : List Entry → Option (List ℕ) → Option (List ℕ)
 client_of entries None = None
 client_of entries (Some token) = client_with entries (sha256 token)
 
--- the arrival of a message that follows k whole messages of its event has the client with the message's
--- token, the time of the event, and the event's first id plus k
+-- the arrival has the client with the message's token, the time of the event, and the event's first id plus
+-- k, where k is the number of whole messages that precede this message in the event
 pub record Arrives (entries : List Entry) (stamp : Stamp) (k : ℕ) (message : Message) (arrival : Arrival) : Type 0 where
   pub client : option_copied arrival.client ≡ client_of entries message.token
   pub moment : arrival.moment ≡ stamp.moment
@@ -52,8 +52,8 @@ closes_by_itself (Refused refusal) = closes refusal
 closes_by_itself (Page page) = false
 closes_by_itself (Served reply) = is_closing (refusal_of reply)
 
--- the reply to the message has this text, `closing` tells whether it closes the connection, and `next` is the
--- store after it
+-- the reply to the message has this text, `closing` is whether the reply closes the connection, and `next` is
+-- the store after the reply
 pub record IsReplied (policy : List Rule) (base : List ℕ) (arrival : Arrival) (message : Message) (store : Store) (text : List ℕ) (closing : Bool)
     (next : Store) : Type 0 where
   pub answer : Answer
@@ -67,17 +67,17 @@ whole_count (item.Whole message) = 1
 whole_count _ = 0
 
 module _ (policy : List Rule) (base : List ℕ) (entries : List Entry) (stamp : Stamp) where
-  -- the reply to an item that follows k whole messages of its event has this text, `closing` tells whether it
-  -- closes the connection, and `next` is the store after it
+  -- the reply to the item has this text, `closing` is whether the reply closes the connection, and `next` is
+  -- the store after the reply; k is the number of whole messages that precede the item in its event
   abbrev pub IsAnswered : ℕ → Item → Store → List ℕ → Bool → Store → Type 0
   IsAnswered k item.Continue store text closing next = (text ≡ continue_text) × (closing ≡ false) × (next ≡ store)
   IsAnswered k (item.Refused refusal) store text closing next = (text ≡ refusal_text refusal (whole_form true)) × (closing ≡ true) × (next ≡ store)
   IsAnswered k (item.Whole message) store text closing next =
       (arrival : Arrival) × Arrives entries stamp k message arrival × IsReplied policy base arrival message store text closing next
 
-  -- the replies to items that follow k whole messages of their event have these texts: each item is answered
-  -- with the store after the previous one, up to the first whose reply closes the connection; the items after
-  -- that are dropped
+  -- the replies to the items, which k whole messages precede in their event, have these texts: each item is
+  -- answered with the store after the previous item, up to the first item whose reply closes the connection;
+  -- later items are dropped
   abbrev pub AreAnswered : ℕ → List Item → Store → List (List ℕ) → Bool → Store → Type 0
   AreAnswered k [] store texts closed next = (texts ≡ []) × (closed ≡ false) × (next ≡ store)
   AreAnswered k (item ∷ items) store texts closed next =

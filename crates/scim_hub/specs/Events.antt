@@ -1,4 +1,4 @@
--- The events of many connections: the outputs for each, and the connections and the store after it.
+-- The events of many connections: the outputs for each event, and the hub's connections and store after it.
 use Rattle.std.specs.Prelude.{◌≡◌, ◌⊎◌, ℕ, ◌==◌, Bool, List, [], ◌∷◌, ◌++◌, map, Result, Ok, Err, if◌then◌else◌}
 use Rattle.scim_policy.specs.Rules.{Rule}
 use Rattle.scim_shelf.specs.Stores.{Store}
@@ -39,7 +39,7 @@ pub record HubState : Type 0 where
 abbrev pub none_joined : Store → HubState
 none_joined store = record { connections = λ _. absent; store = store }
 
--- the connections, except that number n has the given connection
+-- the connections after the state of connection n is replaced by `connection`
 abbrev pub set : ℕ → Connection → (ℕ → Connection) → ℕ → Connection
 set n connection connections m = if n == m then connection else connections m
 
@@ -56,12 +56,13 @@ hub_outputs n texts closed = map (writing n) texts ++ (if closed then shutting n
 abbrev pub IsDenied : HubFault → HubState → Result (List HubOutput) HubFault → HubState → Type 0
 IsDenied fault state result next = (result ≡ Err fault) × (next ≡ state)
 
--- the next state has this store and, for number n, this connection; the other connections are unchanged
+-- the next state has the store `store`, and its connection n has the state `connection`; all other
+-- connections are unchanged
 abbrev pub Becomes : ℕ → Connection → Store → HubState → HubState → Type 0
 Becomes n connection store state next = next ≡ record { connections = set n connection state.connections; store = store }
 
--- a connection joins with number n: it is added with nothing read if the number is free and memory suffices;
--- otherwise the result is `AlreadyJoined` or `NoMemory`, and nothing changes
+-- a connection joins with number n: it is added, with nothing read from its stream; if the number is in use
+-- or memory runs out, the result is the error `AlreadyJoined` or `NoMemory`, and nothing changes
 abbrev pub Joins : Connection → ℕ → HubState → Result (List HubOutput) HubFault → HubState → Type 0
 Joins absent n state result next = ((result ≡ Ok []) × Becomes n (joined [] []) state.store state next) ⊎ IsDenied NoMemory state result next
 Joins _ n state result next = IsDenied AlreadyJoined state result next
@@ -72,7 +73,8 @@ Leaves absent n state result next = IsDenied Unknown state result next
 Leaves _ n state result next = (result ≡ Ok []) × Becomes n absent state.store state next
 
 module _ (policy : List Rule) (base : List ℕ) (entries : List Entry) where
-  -- the new items of the stream are answered, and the connection is shut after them or remains joined
+  -- the items that the piece completes are answered; then the connection is shut if a reply closes it, and
+  -- otherwise remains joined
   pub record IsTaken (stamp : Stamp) (n : ℕ) (stream : List ℕ) (items : List Item) (state : HubState) (result : Result (List HubOutput) HubFault) (next : HubState) : Type 0 where
     pub new : List Item
     pub has_items : HasItems stream (items ++ new)
@@ -83,7 +85,7 @@ module _ (policy : List Rule) (base : List ℕ) (entries : List Entry) where
     pub result_is : result ≡ Ok (hub_outputs n texts closed)
     pub becomes : Becomes n (if closed then shut else joined stream (items ++ new)) store state next
 
-  -- a prefix of the new items of the stream has been answered, and `store` is the store after it
+  -- a prefix of the new items of the stream has been answered, which changed the store from `old` to `store`
   pub record AreBegun (stamp : Stamp) (stream : List ℕ) (items : List Item) (old store : Store) : Type 0 where
     pub front : List Item
     pub back : List Item
@@ -100,21 +102,21 @@ module _ (policy : List Rule) (base : List ℕ) (entries : List Entry) where
     pub result_is : result ≡ Err NoMemory
     pub becomes : Becomes n shut store state next
 
-  -- the next piece of a connection's stream arrives: it is answered, or the result is `Unknown` for an absent
-  -- connection, `Closed` for a shut one, or `NoMemory`
+  -- the next piece of a connection's stream arrives and is answered; the error `Unknown` if the connection is
+  -- absent, `Closed` if it is shut, and `NoMemory` if memory runs out
   abbrev pub Takes : Connection → Stamp → ℕ → List ℕ → HubState → Result (List HubOutput) HubFault → HubState → Type 0
   Takes absent stamp n bytes state result next = IsDenied Unknown state result next
   Takes shut stamp n bytes state result next = IsDenied Closed state result next
   Takes (joined stream items) stamp n bytes state result next =
       IsTaken stamp n (stream ++ bytes) items state result next ⊎ IsCutOff stamp n (stream ++ bytes) items state result next
 
-  -- the result and the next state of a hub for what occurs on the connection with this number
+  -- the result and the next state of a hub after an event of this kind on connection n
   abbrev pub Meets : HubEventKind → Stamp → ℕ → HubState → Result (List HubOutput) HubFault → HubState → Type 0
   Meets joining stamp n state result next = Joins (state.connections n) n state result next
   Meets (sending bytes) stamp n state result next = Takes (state.connections n) stamp n bytes state result next
   Meets leaving stamp n state result next = Leaves (state.connections n) n state result next
 
-  -- the result and the next state of a hub for an event
+  -- the result and the next state of a hub after an event
   abbrev pub Hears : HubEvent → HubState → Result (List HubOutput) HubFault → HubState → Type 0
   Hears seen state result next = Meets seen.kind seen.stamp seen.connection state result next
 

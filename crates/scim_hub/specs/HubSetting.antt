@@ -1,5 +1,4 @@
--- The setting of a hub: the policy and the base URI of its service, and the clients' tokens. Also the shelf
--- of its service.
+-- The settings of a hub: the policy, the base URI and the shelf of its service, and the clients' tokens.
 use Rattle.std.specs.Prelude.{◌≡◌, ℕ, List}
 use Rattle.scim_policy.specs.Rules.{Rule}
 use Rattle.scim_service.specs.Setting.{service_policy, service_base, service_shelf}

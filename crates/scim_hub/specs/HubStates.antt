@@ -20,19 +20,19 @@ use Rattle.scim_hub.specs.declared.owned_events.OwnedEventKind.TheVariants as ke
 use Rattle.scim_hub.specs.declared.owned_events.OwnedEvent.{OwnedEvent}
 use Rattle.scim_hub.specs.Events.{HubEventKind, joining, sending, leaving, HubEvent, Connection, absent, joined, shut, HubState, HubOutput, writing, shutting}
 
--- the program's connection, if any, is in this state
+-- the program's connection is in this state; a connection that doesn't exist is in the state `absent`
 abbrev pub IsKept : Option code.Connection → Connection → Type 0
 IsKept None absent = Unit {0}
 IsKept (Some (Open wire)) (joined stream items) = StandsFor wire stream items
 IsKept (Some Shut) shut = Unit {0}
 IsKept _ _ = ⊥
 
--- the program's connections are in these states, by number
+-- for each number n, the program's connection with this number is in the state `connections n`
 abbrev pub AreConnections : Connections → (ℕ → Connection) → Type 0
 AreConnections kept connections = (n : ℕ) → IsKept (get nat_cmp kept.by_number n) (connections n)
 
 -- the hub is in this state: its shelf contains the state's store, whose resources are below the hub's base
--- URI, and each of its connections is in the state that `state.connections` lists for its number
+-- URI, and for each number n, the hub's connection with this number is in the state `state.connections n`
 pub record IsHubState {H : Type 0} (Stands : H → Store → Type 0) (hub : Hub H) (state : HubState) : Type 0 where
   pub store : Stands hub.service.shelf state.store
   pub is_store : IsStore hub.service.base state.store

@@ -14,13 +14,13 @@ use Rattle.scim_hub.specs.declared.streams.Served.{Served}
 use Rattle.scim_hub.specs.Answering.{continue_text}
 use Rattle.scim_hub.specs.Events.{HubEventKind, sending, HubEvent, HubState, HubOutput, writing, shutting, Joins, Leaves, Hears}
 
--- these stamps are appended to the stamps returned so far, if those are known
+-- if the stamps returned so far are known, these stamps are appended to them
 abbrev pub Grows : Option (List Stamp) → Option (List Stamp) → List Stamp → Type 0
 Grows None new stamps = ⊤
 Grows (Some xs) None stamps = ⊥
 Grows (Some xs) (Some ys) stamps = ys ≡ xs ++ stamps
 
--- an event and its result, called a turn
+-- an event that the hub handled, and its result
 pub record AnsweredEvent : Type 0 where
   pub event : HubEvent
   pub done : Result (List HubOutput) HubFault
@@ -30,7 +30,7 @@ abbrev pub bytes_in : HubEventKind → List ℕ
 bytes_in (sending bytes) = bytes
 bytes_in _ = []
 
--- the bytes of the turns' pieces, in order
+-- the concatenated bytes of the pieces of these events, in order
 abbrev pub bytes_of : List AnsweredEvent → List ℕ
 bytes_of turns = flat_map (λ t. bytes_in t.event.kind) turns
 
@@ -44,7 +44,7 @@ abbrev pub text_done : Result (List HubOutput) HubFault → List ℕ
 text_done (Ok hub_outputs) = flat_map text_in hub_outputs
 text_done (Err fault) = []
 
--- the concatenated text that is written for the results of the turns, in order
+-- the concatenated text that is written for the results of these events, in order
 abbrev pub text_of : List AnsweredEvent → List ℕ
 text_of turns = flat_map (λ t. text_done t.done) turns
 
@@ -58,7 +58,7 @@ abbrev pub replies_done : Result (List HubOutput) HubFault → ℕ
 replies_done (Ok hub_outputs) = count_by is_reply hub_outputs
 replies_done (Err fault) = 0
 
--- the number of replies written for the results of the turns
+-- the number of replies written for the results of these events
 abbrev pub replies_of : List AnsweredEvent → ℕ
 replies_of [] = 0
 replies_of (t ∷ turns) = replies_done t.done + replies_of turns
@@ -73,12 +73,12 @@ abbrev pub shuts : Result (List HubOutput) HubFault → Bool
 shuts (Ok hub_outputs) = list_any is_shutting hub_outputs
 shuts (Err fault) = false
 
--- what occurs is that a piece of at least one byte arrives
+-- the event is the arrival of a non-empty piece
 abbrev pub IsPiece : HubEventKind → Type 0
 IsPiece (sending bytes) = bytes ≢ []
 IsPiece _ = ⊥
 
--- the turn's event is that a non-empty piece arrives on connection n
+-- the event is the arrival of a non-empty piece on connection n
 abbrev pub IsPieceOf : ℕ → AnsweredEvent → Type 0
 IsPieceOf n turn = (turn.event.connection ≡ n) × IsPiece turn.event.kind
 
@@ -97,7 +97,8 @@ abbrev pub IsLostAt : IoFault → List ℕ → Type 0
 IsLostAt NoStamp lost = lost ≢ []
 IsLostAt _ lost = lost ≡ []
 
--- the bytes are the turns' pieces in order, followed by the bytes that were lost because of a missing stamp
+-- the bytes are those of the events' pieces in order, followed by the piece that was lost if the result is
+-- the error `Stamp`
 pub record AreBytesOf {T : Type 0} (turns : List AnsweredEvent) (bytes : List ℕ) (result : Result T IoFault) : Type 0 where
   pub lost : List ℕ
   pub split : bytes ≡ bytes_of turns ++ lost
@@ -107,16 +108,16 @@ pub record AreBytesOf {T : Type 0} (turns : List AnsweredEvent) (bytes : List �
 abbrev pub most_reads : ℕ
 most_reads = 1000000
 
--- the hub answered the turn's event without an error, and the connection stays open
+-- the hub handled the event without an error, and the connection stays open
 abbrev pub StaysOpen : AnsweredEvent → Type 0
 StaysOpen turn = IsOk turn.done × (shuts turn.done ≡ false)
 
--- after these turns, one for each read, the connection is open and its stream may be read once more
+-- after these events, one for each read, the connection is open and its stream may be read once more
 pub record AreReadOn (turns : List AnsweredEvent) : Type 0 where
   pub stay : All StaysOpen turns
   pub few : length turns < most_reads
 
--- the connection was open before the last turn, and that turn's result satisfies `IsLast`
+-- the connection was open before the last event, and the result of the last event satisfies `IsLast`
 pub record EndWith (turns : List AnsweredEvent) (IsLast : Result (List HubOutput) HubFault → Type 0) : Type 0 where
   pub earlier : List AnsweredEvent
   pub last : AnsweredEvent
@@ -124,22 +125,22 @@ pub record EndWith (turns : List AnsweredEvent) (IsLast : Result (List HubOutput
   pub read_on : AreReadOn earlier
   pub is_last : IsLast last.done
 
--- the turns before an error: `Hub` is the error of the last turn, `Write` occurs in the last turn, `Turns`
--- follows the maximum number of turns, and before `Turns`, `Read` or `Stamp` no turn fails or shuts the
--- connection
+-- the events before an error: `Hub` is the error of the last event, `Write` occurs for the outputs of the
+-- last event, `Turns` follows the maximum number of events, and before `Turns`, `Read` or `Stamp` no event
+-- fails or shuts the connection
 abbrev pub EndAt : IoFault → List AnsweredEvent → Type 0
 EndAt (Hub fault) turns = EndWith turns (λ done. done ≡ Err fault)
 EndAt Write turns = EndWith turns IsOk
 EndAt Turns turns = All StaysOpen turns × (length turns ≡ most_reads)
 EndAt _ turns = AreReadOn turns
 
--- the turns before a success: the connection was open until the stream ended, or the last turn shut it
+-- the events before a success: the connection was open until the stream ended, or the last event shut it
 abbrev pub EndWell : Option (List ℕ) → List AnsweredEvent → Type 0
 EndWell remaining turns = (IsAtEnd remaining × AreReadOn turns) ⊎ EndWith turns (λ done. shuts done ≡ true)
 
 module _ (policy : List Rule) (base : List ℕ) (entries : List Entry) (n : ℕ) where
-  -- the hub handles the turns' events in order, from `state` to `next`; each event is a piece of connection
-  -- n, and the turns have these bytes, stamps and written text
+  -- the hub handles the events in `turns` in order, from `state` to `next`; each event is a piece of
+  -- connection n, and the events have these bytes, stamps and written text
   pub record AreServed {T : Type 0} (state next : HubState) (turns : List AnsweredEvent) (bytes : List ℕ) (given given_then : Option (List Stamp)) (contents contents_then : Option (List ℕ))
       (result : Result T IoFault) : Type 0 where
     pub runs : FoldsTo (λ h t u. Hears policy base entries t.event h t.done u) state turns next

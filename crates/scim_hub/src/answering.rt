@@ -61,8 +61,8 @@ fn client_of<'t>(tokens: &'t Tokens, message: &Message) -> Option<&'t str>
     }
 }
 
-/// Returns the client, the time and the fresh id of a message that follows `count` whole messages of its
-/// event.
+/// Returns the client of a message, the time of its event, and the id for the resource that it may create.
+/// `count` is the number of whole messages that precede it in the event.
 fn arrival_of<'t>(tokens: &'t Tokens, stamp: &Stamp, count: usize, message: &Message) -> Arrival<'t>
     ensures { (entries : List Entry) → Knows entries tokens.now
         → Arrives entries stamp.now count message.now result }
@@ -89,8 +89,8 @@ fn closes_by_itself(answer: &Answer) -> bool
     }
 }
 
-/// Returns the reply with an answer, printed in the given form. It closes the connection if the form does, or
-/// if the answer is a refusal that closes the connection.
+/// Returns the reply for an answer, printed in the given form. The reply closes the connection if the form
+/// says so, or if the answer is a refusal that closes the connection.
 fn reply_with(alloc: Global, answer: &Answer, form: ReplyForm) -> Result<Reply, NoMemory>
     ensures { Says result (answer_text answer.now form) (form.closes
         || spec.closes_by_itself answer.now) }
@@ -112,8 +112,8 @@ fn continue_reply(alloc: Global) -> Result<Reply, NoMemory>
     })
 }
 
-/// Answers a message. Fails with `NoMemory` if the reply's text can't be allocated; the message's changes
-/// remain committed then.
+/// Answers a message. Fails with `NoMemory` if the reply's text can't be allocated; the changes that the
+/// message made remain committed.
 fn answer_message<S: Shelf>(
     alloc: Global,
     routes: &Routes,
@@ -136,9 +136,10 @@ fn answer_message<S: Shelf>(
     reply_with(alloc, &answer, ReplyForm::of(message))
 }
 
-/// Answers an item that follows `count` whole messages of its event.
+/// Answers an item of an event, in which `count` whole messages precede the item.
 ///
-/// Fails with `NoMemory` if the reply's text can't be allocated; the item's changes remain committed then.
+/// Fails with `NoMemory` if the reply's text can't be allocated; the changes that the item made remain
+/// committed.
 fn answer_item<S: Shelf>(
     alloc: Global,
     routes: &Routes,
@@ -182,7 +183,7 @@ fn whole_count(item: &Item) -> usize
     }
 }
 
-/// Answers the items of an event in order, up to the first whose reply closes the connection.
+/// Answers the items of an event in order, up to and including the first whose reply closes the connection.
 ///
 /// After `NoMemory` the changes of the items that were answered remain committed, and their replies are lost.
 pub(crate) fn answer_items<S: Shelf>(

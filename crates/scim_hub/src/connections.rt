@@ -13,9 +13,9 @@ use std::mem;
 
 /// A connection that has joined and not left.
 pub(crate) enum Connection {
-    /// The hub reads its stream.
+    /// The hub reads the connection's stream.
     Open(Wire),
-    /// The hub ignores its stream.
+    /// The hub ignores the connection's stream.
     Shut,
 }
 

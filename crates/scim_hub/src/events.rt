@@ -10,8 +10,8 @@ use uuid::Uuid;
 pub struct Stamp {
     /// The time at which the event occurred.
     pub moment: Moment,
-    /// The id for the resource that the event's first whole message creates, if any. The id for each further
-    /// whole message of the event is the next number, even if the previous id wasn't used.
+    /// The id for the resource that the event's first whole message creates, if it creates one. Each further
+    /// whole message of the event gets the next number as its id, even if the previous id wasn't used.
     pub first: Id,
 }
 
@@ -40,7 +40,7 @@ pub enum EventKind<'a> {
 /// An occurrence on a connection, with its stamp.
 #[derive(Clone, Copy)]
 pub struct Event<'a> {
-    /// The number of the connection. After it has left, a new connection may use the number.
+    /// The number of the connection. After the connection has left, a new one may use the number.
     pub connection: u64,
     pub stamp: Stamp,
     pub kind: EventKind<'a>,
@@ -55,7 +55,7 @@ pub enum Output {
     Shut(u64),
 }
 
-/// The error of an event that the hub can't answer.
+/// The error if the hub can't handle an event.
 #[derive(Clone, Copy, Debug, PartialEq, Eq, Error)]
 pub enum HubFault {
     /// A connection joins with a number that is in use; nothing has changed.
@@ -67,8 +67,8 @@ pub enum HubFault {
     /// A piece arrived for a connection that is shut; nothing has changed.
     #[error("closed")]
     Closed,
-    /// An allocation failed. A joining connection hasn't joined. A connection whose piece was read is shut,
-    /// and its outputs are lost; the changes of its requests remain committed.
+    /// An allocation failed. If the connection was joining, it hasn't joined. If a piece was read, the
+    /// connection is shut and the outputs are lost; the changes that its requests made remain committed.
     #[error("out of memory")]
     NoMemory,
 }

@@ -21,9 +21,9 @@ use std::alloc::Global;
 
 /// Answers the events of many connections with one service.
 ///
-/// A connection joins, its stream arrives in pieces, and it leaves. The messages that a piece completes are
-/// answered in order, each on behalf of the client that has its token. After a reply that closes the
-/// connection the hub shuts the connection and ignores the rest of its stream.
+/// A connection joins, its stream arrives in pieces, and the connection leaves. The messages that a piece
+/// completes are answered in order, each on behalf of the client that has the message's token. After a reply
+/// that closes the connection, the hub shuts the connection and ignores the rest of its stream.
 pub struct Hub<S> {
     routes: Routes,
     service: Service<S>,
@@ -61,8 +61,8 @@ impl<S: Shelf> Hub<S> {
 
     /// Handles an event, and returns the outputs for its connection, in order.
     ///
-    /// - `Joined`: adds the connection, with nothing read of its stream. Fails with `AlreadyJoined` if the
-    ///   number is in use.
+    /// - `Joined`: adds the connection; nothing of its stream has been read. Fails with `AlreadyJoined` if
+    ///   the number is in use.
     /// - `Piece`: answers the items that the piece completes, in order, up to the first whose reply closes
     ///   the connection. Then the connection is shut, and further items are dropped. Fails with `Unknown` if
     ///   no connection has the number, and with `Closed` if the connection is shut.

@@ -6,7 +6,7 @@ ghost use Rattle.scim_hub.specs.declared.events.Stamp.{Stamp};
 use crate::events::Stamp;
 use thiserror::Error;
 
-/// The error that no stamp is available.
+/// The error if no stamp is available.
 #[derive(Clone, Copy, Debug, PartialEq, Eq, Error)]
 #[error("no stamp")]
 pub struct NoStamp;

@@ -21,7 +21,8 @@ pub record AreResourcesBelow (base : List ℕ) (cs : List Content) : Type 0 wher
 abbrev pub IsDocumentsText : List ℕ → List ℕ → List Content → Type 0
 IsDocumentsText base text cs = AreResourcesBelow base cs × (read text ≡ Some (array (documents_and cs no_items)))
 
--- the value isn't the stored document of any resource that may be on the same server as these resources
+-- the value isn't the stored document of any resource below the base that may be on the same server as these
+-- resources
 abbrev pub IsDamagedBeside : List ℕ → List Content → Data → Type 0
 IsDamagedBeside base cs d = (c : Content) → IsDocument base d c → All (λ b. AreApart b c) cs → ⊥
 

@@ -1,4 +1,5 @@
--- The JSON of a part has exactly its cells, and reading the stored JSON of a resource returns the resource.
+-- The JSON of a part has exactly the cells of the part. Reading the stored JSON of a resource returns the
+-- resource.
 use Rattle.std.specs.Prelude.{◌≡◌, ℕ, List, Some, Result, Ok}
 use Rattle.std.specs.FinMap.{entries}
 use Rattle.serde_json.specs.Read.{read}
@@ -9,11 +10,11 @@ use Rattle.scim_json.specs.PartData.{part_data, stored_data}
 use Rattle.scim_json.specs.Stored.{IsResourceBelow, GivesStored, stored_text}
 use Rattle.scim_json.specs.Found.{found_cells}
 
--- the JSON of a part has each of its cells at its place, and no other cell
+-- the JSON of a part contains all cells of the part, and no other cells
 abbrev pub PartsAreShownWhole : Type 0
 PartsAreShownWhole = (c : Content) → IsPart c → found_cells c.kind (part_data c) ≡ entries c.cells
 
--- reading the stored text of a part returns the JSON that it was written from
+-- parsing the stored text of a part returns the stored JSON value of the part
 abbrev pub KeptReadsBack : Type 0
 KeptReadsBack = (c : Content) → read (compact_text (stored_data c)) ≡ Some (stored_data c)
 

@@ -18,6 +18,6 @@ abbrev pub counts : ℕ → ℕ → ℕ → Members
 counts total start shown =
     member (codes "itemsPerPage") (count_data shown) (member (codes "schemas") list_schemas (member (codes "startIndex") (count_data start) (member (codes "totalResults") (count_data total) no_members)))
 
--- the JSON of a list: its parts, unless there are none, and the members of `counts`
+-- the JSON of a list: `Resources` with the parts, omitted if there are no parts, and the members of `counts`
 unfoldable pub list_data : ℕ → ℕ → List Content → Data
 list_data total start parts = object (with_member (codes "Resources") (array_of (items_of part_data parts)) (counts total start (length parts)))

@@ -27,7 +27,7 @@ use Rattle.scim_schema.specs.JsonKeys.{key_text, keys, extension_keys, ordered_s
 
 -- ---- objects and arrays
 
--- the members `ms`, with a member for the key `k` added at the start if it has a value
+-- the members `ms`, with a member for the key `k` added at the start if there is a value
 abbrev pub with_member : List ℕ → Option Data → Members → Members
 with_member k None ms = ms
 with_member k (Some d) ms = member k d ms
@@ -84,7 +84,7 @@ complex_data form rs a = object_of (members_where sub_attribute_name (sub_data r
 abbrev pub values_data : JsonForm → List Row → Attribute → Option Data
 values_data form rs a = array_of (items_of (value_data form a) (values (whole a) rs))
 
--- the JSON value of an attribute with this form of value, or None
+-- the JSON value of an attribute whose value has this shape, or None if it has no cells
 abbrev pub shaped_data : JsonForm → JsonShape → List Row → Attribute → Option Data
 shaped_data form Simple rs a = simple_data rs a
 shaped_data form Complex rs a = complex_data form rs a
@@ -116,17 +116,17 @@ extension_data form rs s =
 
 -- ---- parts
 
--- the JSON value of a key of a part, or None
+-- the JSON value for a key in the outermost object of a part, or None
 abbrev pub key_data : JsonForm → Content → JsonKey → Option Data
 key_data form c (Of a) = attribute_data form (rows c) a
 key_data form c Schemas = Some (schemas_data (rows c) (core_schema c.kind) (extensions c.kind))
 key_data form c (Extension s) = extension_data form (rows c) s
 
--- the JSON of a part in a form, for clients or for the store
+-- the JSON of a part, for clients or for the store
 unfoldable pub data_of : JsonForm → Content → Data
 data_of form c = object (members_where key_text (key_data form c) (keys form c.kind))
 
--- the JSON of a part for clients: its cells and `schemas`, with the keys of each object in byte order
+-- the JSON of a part for clients: the cells and `schemas`, with the keys of each object in byte order
 unfoldable pub part_data : Content → Data
 part_data c = data_of Shown c
 

@@ -20,12 +20,12 @@ IsResourceBelow base c = IsResource c × HasBase base c
 abbrev pub IsDocument : List ℕ → Data → Content → Type 0
 IsDocument base d c = IsResourceBelow base c × (d ≡ stored_data c)
 
--- the text is a stored document of the resource: JSON text with its stored value
+-- the text is JSON with the value of the stored JSON of the resource, whose location is below the base
 abbrev pub IsDocumentText : List ℕ → List ℕ → Content → Type 0
 IsDocumentText base text c = IsResourceBelow base c × (read text ≡ Some (stored_data c))
 
 -- the result of reading a text as a stored document: the resource with this document, or the error `Damaged`
--- if there is none
+-- if no resource has this document
 abbrev pub GivesStored : List ℕ → List ℕ → Result Content Damaged → Type 0
 GivesStored base text (Ok c) = IsDocumentText base text c
 GivesStored base text (Err damaged) = (c : Content) → ¬ IsDocumentText base text c

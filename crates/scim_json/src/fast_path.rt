@@ -1,8 +1,8 @@
 //! Reads a stored document whose text is exactly what the server writes, which is the usual case.
 //!
-//! The cells are guessed from a JSON tree that borrows from the text. The guess is accepted only if the
-//! server would store it as exactly this text, so the functions that guess need no contracts. This
-//! takes half the time of the general reading in `stored_documents`.
+//! The private functions guess the resource from a JSON tree that borrows from the text. A guess is
+//! accepted only if [`stored_text`] writes exactly the same text for the guessed resource, so most of
+//! these functions need no contracts. This takes half the time of the general reader in `stored_documents`.
 ghost use Rattle.std.specs.Prelude.{◌≡◌, IfOk, IfSome, IsTrue, Some};
 ghost use Rattle.serde_json.specs.Read.{read};
 ghost use Rattle.scim_value.specs.Resource.{HasBase};
@@ -21,8 +21,8 @@ use scim_text::{Failed, NoMemory, push};
 use scim_value::{Invalid, Part, Resource, location};
 use std::alloc::Global;
 
-/// Returns the resource below the base for which [`stored_text`] writes exactly this text, or `None` if
-/// there is none.
+/// Returns the resource below the base for which [`stored_text`] writes exactly this text, or `None` if no
+/// such resource is found.
 pub(crate) fn read_as_written(
     alloc: Global,
     base: &str,
@@ -65,8 +65,8 @@ fn is_stored_text(alloc: Global, resource: &Resource, text: &str) -> Result<bool
     Ok(stored_text(alloc, resource)?.as_str() == text)
 }
 
-/// Makes a resource below the base from the cells in the value. Returns `None` if they don't form one. The
-/// value isn't necessarily the stored document of the resource.
+/// Makes a resource below the base from the cells in `value`. Returns `None` if the cells don't form a
+/// resource. `value` isn't necessarily the stored document of the returned resource.
 fn guessed(alloc: Global, base: &str, value: &Value<'_>) -> Result<Option<Resource>, NoMemory>
     ensures { IfOk result (λ found. IfSome found (HasBase base.now)) }
 {
@@ -123,7 +123,8 @@ fn push_attributes(
     Ok(())
 }
 
-/// The value of an attribute, in the object of the resource or in the object of the attribute's extension.
+/// The JSON value of an attribute, or `None` if it is missing. Looks for an attribute of an extension in the
+/// object of the extension.
 fn attribute_in<'a, 'b>(value: &'a Value<'b>, attribute: Attribute) -> Option<&'a Value<'b>> {
     match extension_of(attribute) {
         Some(schema) => value.get(schema.urn())?.get(attribute.name()),

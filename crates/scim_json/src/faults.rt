@@ -14,7 +14,7 @@ pub struct Damaged;
 #[derive(Clone, Copy, Debug, PartialEq, Eq)]
 pub struct DamagedItem(pub usize);
 
-// Written by hand, because there are two different messages.
+// Not derived, because there are two different messages.
 impl fmt::Display for DamagedItem {
     fn fmt<W: fmt::Write>(&self, f: &mut fmt::Formatter<W>) -> fmt::Result {
         match self {

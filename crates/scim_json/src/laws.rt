@@ -2,7 +2,7 @@
 ghost use Rattle.scim_json.specs.Laws.{PartsAreShownWhole, KeptReadsBack, StoredResourcesReadBack};
 ghost use Rattle.scim_json.specs.Stored.{DocumentsAreApart};
 
-/// Lemma: the JSON that `to_json` writes has each cell of the part at its place, and no other cell.
+/// Lemma: the JSON that `to_json` writes contains all cells of the part, and no other cells.
 /// Looking up each attribute of the kind, in the object of its schema, finds the cells of the part in
 /// order of place with their values (RFC 7643 sections 2.3 and 3.3).
 pub fn parts_are_shown_whole()
@@ -15,13 +15,13 @@ pub fn documents_are_apart()
     ensures { DocumentsAreApart }
 {}
 
-/// Lemma: reading the text that `stored_text` writes returns the JSON that it was written from.
+/// Lemma: parsing the text that `stored_text` writes returns the stored JSON value of the resource.
 pub fn documents_read_back()
     ensures { KeptReadsBack }
 {}
 
-/// Lemma: for a resource whose `meta.location` is below the base, [`crate::read_stored`] returns the
-/// resource, with every cell, from the text of [`crate::stored_text`]. It fails only if memory runs out.
+/// Lemma: [`crate::read_stored`] reads the text of [`crate::stored_text`] back as the same resource, if the
+/// `meta.location` of the resource is below the base. The call fails only if memory runs out.
 pub fn stored_resources_read_back()
     ensures { StoredResourcesReadBack }
 {}

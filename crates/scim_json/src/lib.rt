@@ -1,5 +1,5 @@
-//! The JSON of SCIM: writes the text of a part for clients, and writes and reads the stored text of a
-//! resource (RFC 7643 sections 2.3, 3 and 8, RFC 7644 section 3).
+//! The JSON of SCIM. Writes the JSON text of a part for clients, and writes and reads the JSON text of a
+//! stored resource (RFC 7643 sections 2.3, 3 and 8, RFC 7644 section 3).
 #![tactic(auto)]
 
 mod atoms;

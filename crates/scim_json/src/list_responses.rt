@@ -15,10 +15,10 @@ use std::alloc::Global;
 
 /// Returns the JSON text of a list for a client (RFC 7644 section 3.4.2).
 ///
-/// It contains the parts, their number as `itemsPerPage`, the position `start` of the first part among
-/// all results, from 1, as `startIndex`, and the number `total` of all results as `totalResults`. The
-/// text has no spaces, and the keys of each object are in byte order. `Resources` is omitted if there
-/// are no parts.
+/// `Resources` contains the parts, and is omitted if there are no parts. `itemsPerPage` is the number of
+/// parts. `startIndex` is `start`, the position of the first part among all results, counted from 1.
+/// `totalResults` is `total`, the number of all results. The text has no spaces, and the keys of each
+/// object are in byte order.
 #[tactic(auto, using(crate::proofs::Printed::texts))]
 pub fn to_list_json(
     alloc: Global,
@@ -34,7 +34,7 @@ pub fn to_list_json(
     Ok(unsafe { String::from_utf8_unchecked(out.into_inner()) })
 }
 
-/// Writes the object of a list. If memory runs out, `out` contains an unfinished text.
+/// Writes the JSON object of a list response. If memory runs out, `out` contains an unfinished text.
 #[tactic(auto, unfolding(crate::specs::ListData::list_data))]
 fn write_list(
     alloc: Global,
@@ -78,7 +78,7 @@ fn write_parts(alloc: Global, out: &mut Writer, parts: &[Part]) -> Result<(), No
     Ok(())
 }
 
-/// Writes the counts and `schemas`, and ends the object.
+/// Writes all members except `Resources`, then ends the object.
 fn write_counts(out: &mut Writer, total: usize, start: usize, shown: usize) -> Result<(), NoMemory>
     ensures { OnOk result (Adds out.old out.new (members_tokens (spec.counts total start shown))) }
 {

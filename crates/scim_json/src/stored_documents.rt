@@ -33,9 +33,9 @@ use std::alloc::Global;
 /// and the order of keys may differ. `meta.location`, which isn't stored, is computed below `base`, such as
 /// `http://127.0.0.1:8080`.
 ///
-/// Fails with `Damaged` if the text isn't a stored document: for example, because it contains keys that are
-/// spelled differently or aren't stored, null, empty lists or objects, values of a wrong type, moments
-/// in another form than the printed one, or cells that don't form a resource.
+/// Fails with `Damaged` if the text isn't a stored document. Examples are texts with unknown keys, keys in
+/// another letter case, null, empty lists or objects, values of a wrong type, or a dateTime in another form
+/// than [`scim_text::print_moment`] prints, and texts whose cells don't form a resource.
 pub fn read_stored(alloc: Global, base: &str, text: &str) -> Result<Resource, Failed<Damaged>>
     ensures { UnlessMemory (GivesStored base.now text.now) result }
 {
@@ -107,8 +107,8 @@ fn is_kept_of(alloc: Global, resource: &Resource, value: &Value) -> Result<bool,
     Ok(kept.as_str() == written.as_str())
 }
 
-/// Returns the only resource below the base whose stored JSON can be this value. Fails with `Damaged` if
-/// there is none. The caller must still check that the value is the stored JSON of the resource.
+/// Returns the only resource below the base whose stored JSON can be `value`. Fails with `Damaged` if there
+/// is no such resource. The caller must still check that `value` is the stored JSON of this resource.
 fn resource_in(alloc: Global, base: &str, value: &Value) -> Result<Resource, Failed<Damaged>>
     ensures below { IfOk result (HasBase base.now) }
     ensures only { IfOk result
@@ -128,7 +128,7 @@ fn resource_in(alloc: Global, base: &str, value: &Value) -> Result<Resource, Fai
     }
 }
 
-/// The kind that `meta.resourceType` names, or `None` if it names none.
+/// The kind that `meta.resourceType` names, or `None` if it is missing or isn't the name of a kind.
 fn kind_in(value: &Value) -> Option<Kind>
     ensures { (kind : Kind) → (result ≡ Some kind)
         ↔ (spec.resource_type_in (view value.now) ≡ Some (kind_name kind)) }
@@ -137,7 +137,7 @@ fn kind_in(value: &Value) -> Option<Kind>
     Kind::named(meta.get(SubAttribute::ResourceType.name())?.as_str()?)
 }
 
-/// The id whose text is the value of `id`, or `None` if there is none.
+/// The id in the attribute `id`, or `None` if the attribute is missing or isn't the text of an id.
 fn id_in(value: &Value) -> Option<Id>
     ensures { (id : List ℕ) → IsId id → (result ≡ Some id)
         ↔ (spec.id_in (view value.now) ≡ Some (id_text id)) }
@@ -145,8 +145,8 @@ fn id_in(value: &Value) -> Option<Id>
     Id::read(attribute_in(value, Attribute::Id)?.as_str()?)
 }
 
-/// Makes a part from the cells in the value, followed by the cell of `meta.location`. Fails with
-/// `Damaged` if these aren't the cells of a part in order of place.
+/// Makes a part from the cells in `value` and the cell of `meta.location`. Fails with `Damaged` if these
+/// aren't the cells of a part, in order of place.
 #[tactic(auto, unfolding(crate::specs::Found::found_cells))]
 fn part_in(
     alloc: Global,
@@ -177,7 +177,7 @@ fn part_in(
     }
 }
 
-/// Appends the cells of these attributes.
+/// Appends the cells that the resource object `value` contains for these attributes.
 fn read_attributes(
     alloc: Global,
     value: &Value,
@@ -195,7 +195,8 @@ fn read_attributes(
     Ok(())
 }
 
-/// The value of an attribute, in the object of the resource or in the object of the attribute's extension.
+/// The JSON value of an attribute, or `None` if it is missing. Looks for an attribute of an extension in the
+/// object of the extension.
 fn attribute_in(value: &Value, attribute: Attribute) -> Option<&Value>
     ensures { option_map (λ v. view v.now) result ≡ spec.attribute_in attribute (view value.now) }
 {

@@ -98,7 +98,8 @@ fn read_listed(
     Ok(Some(resources))
 }
 
-/// Reads the next item. Returns `None` if it isn't the stored document of a resource below the base.
+/// Reads the next item of the list. Returns `None` if the item isn't the stored document of a resource below
+/// the base.
 fn read_next(
     alloc: Global,
     base: &str,
@@ -149,8 +150,8 @@ fn read_printed(
     }
 }
 
-/// Reads a users file like [`read_documents`], but parses the whole text first. So it can determine
-/// whether a text with a damaged item is a JSON list at all.
+/// Reads a users file like [`read_documents`], but parses the whole text first, to determine whether a text
+/// with a damaged item is a JSON list.
 ///
 /// Fails with the same errors as [`read_documents`].
 fn read_together(
@@ -218,8 +219,8 @@ impl Taken {
 
     /// Adds the id and the unique names of a resource. Returns whether all of them were new.
     ///
-    /// If it returns `false` or memory runs out, some of them may have been added, so the record must
-    /// not be used again.
+    /// If this function returns `false` or memory runs out, some of them may have been added, so the
+    /// record must not be used again.
     fn add(&mut self, alloc: Global, resource: &Resource) -> Result<bool, NoMemory>
         ensures free { (cs : List Content) → Records self.old cs → IfOk result (λ free. IsTrue free
             → Records self.new (cs ++ resource.now ∷ []) × All (λ b. AreApart b resource.now) cs) }

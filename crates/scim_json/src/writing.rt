@@ -27,9 +27,9 @@ use scim_text::{NoMemory, print_moment};
 use scim_value::{Part, Resource};
 use std::alloc::Global;
 
-/// Returns the JSON text of a part for a client: its cells and `schemas` (RFC 7643 section 3). It
-/// has no spaces, and the keys of each object are in byte order. serde_json reads it back as the
-/// value that it was written from.
+/// Returns the JSON text of a part for a client: the cells and `schemas` (RFC 7643 section 3). The text
+/// has no spaces, and the keys of each object are in byte order. serde_json parses the text to exactly
+/// the value that was written.
 #[tactic(auto, unfolding(crate::specs::PartData::part_data))]
 pub fn to_json(alloc: Global, part: &Part) -> Result<String, NoMemory>
     ensures text { IfOk result (λ t. string_bytes t ≡ compact_text (spec.part_data part.now)) }
@@ -39,8 +39,8 @@ pub fn to_json(alloc: Global, part: &Part) -> Result<String, NoMemory>
 }
 
 /// Returns the stored JSON text of a resource: the text of [`to_json`] without `schemas`, `groups` and
-/// `meta.location`, which the server computes. serde_json reads it back as the value that it
-/// was written from.
+/// `meta.location`, which the server computes. serde_json parses the text to exactly the value that
+/// was written.
 #[tactic(auto, unfolding(crate::specs::PartData::stored_data))]
 pub fn stored_text(alloc: Global, resource: &Resource) -> Result<String, NoMemory>
     ensures text { IfOk result (λ t. string_bytes t ≡ stored_text resource.now) }
@@ -50,7 +50,7 @@ pub fn stored_text(alloc: Global, resource: &Resource) -> Result<String, NoMemor
     text_of(alloc, resource.part(), JsonForm::Stored)
 }
 
-/// The JSON text of a part in this form.
+/// Returns the JSON text of a part, for clients or for the store.
 #[tactic(auto, using(crate::proofs::Printed::texts, crate::proofs::Kept::read_from_part))]
 fn text_of(alloc: Global, part: &Part, form: JsonForm) -> Result<String, NoMemory>
     ensures text { IfOk result (λ t. string_bytes t ≡ compact_text (spec.data_of form part.now)) }
@@ -61,7 +61,7 @@ fn text_of(alloc: Global, part: &Part, form: JsonForm) -> Result<String, NoMemor
     Ok(unsafe { String::from_utf8_unchecked(out.into_inner()) })
 }
 
-/// Writes the object of a part. If memory runs out, `out` contains an unfinished text.
+/// Writes a part as a JSON object. If memory runs out, `out` contains an unfinished text.
 #[tactic(auto, unfolding(crate::specs::PartData::data_of))]
 pub(crate) fn write_part(
     alloc: Global,
@@ -75,7 +75,7 @@ pub(crate) fn write_part(
     write_keys(alloc, out, part, form, keys(form, part.kind()))
 }
 
-/// Writes the members of these keys, and ends the object.
+/// Writes a member for each of these keys that has a value, then ends the object.
 fn write_keys(
     alloc: Global,
     out: &mut Writer,
@@ -93,7 +93,7 @@ fn write_keys(
     Ok(())
 }
 
-/// Writes the member of a key, if it has a value.
+/// Writes the member for a key, if the key has a value.
 fn write_key(
     alloc: Global,
     out: &mut Writer,
@@ -160,7 +160,7 @@ fn has_extension(part: &Part, schema: Schema) -> bool
         .any(|row| extension_of(row.unit().attribute) == Some(schema))
 }
 
-/// Writes the member of an extension, if the part has a cell of one of its attributes.
+/// Writes the member for an extension, if the part has a cell of an attribute of the extension.
 #[tactic(auto, unfolding(crate::specs::PartData::extension_data))]
 fn write_extension(
     alloc: Global,
@@ -180,7 +180,7 @@ fn write_extension(
     write_attributes(alloc, out, part, form, extension_keys(schema))
 }
 
-/// Writes the members of these attributes, and ends the object.
+/// Writes a member for each of these attributes that has a cell, then ends the object.
 fn write_attributes(
     alloc: Global,
     out: &mut Writer,
@@ -199,7 +199,7 @@ fn write_attributes(
     Ok(())
 }
 
-/// Writes the member of an attribute, if it has a cell.
+/// Writes the member for an attribute, if the attribute has a cell.
 fn write_attribute(
     alloc: Global,
     out: &mut Writer,
@@ -225,8 +225,8 @@ fn write_attribute(
     }
 }
 
-/// The atom at a leaf of a single-valued attribute, given the rows of the attribute. `None` if there is no
-/// such cell.
+/// The atom at a leaf of a single-valued attribute, or `None` if there is no such cell. `own` are the rows of
+/// the attribute.
 fn single_atom(own: &[Row], leaf: Leaf) -> Option<&Atom>
     ensures { option_copied result ≡ cell_at leaf 0 own.now }
 {
@@ -239,7 +239,7 @@ fn single_atom(own: &[Row], leaf: Leaf) -> Option<&Atom>
     None
 }
 
-/// Writes the member of a simple attribute, if the part has a value of it.
+/// Writes the member for a simple attribute, if the attribute has a value.
 fn write_simple(
     alloc: Global,
     out: &mut Writer,
@@ -253,7 +253,7 @@ fn write_simple(
     write_member(alloc, out, attribute.name(), atom)
 }
 
-/// Writes the member of a single-valued complex attribute, if one of these sub-attributes has a cell.
+/// Writes the member for a single-valued complex attribute, if one of these sub-attributes has a cell.
 fn write_complex(
     alloc: Global,
     out: &mut Writer,
@@ -283,7 +283,7 @@ fn has_sub_attribute(own: &[Row], attribute: Attribute, sub_attributes: &[SubAtt
         .any(|b| single_atom(own, Leaf::of(attribute, *b)).is_some())
 }
 
-/// Writes the members of these sub-attributes, and ends the object.
+/// Writes a member for each of these sub-attributes that has a cell, then ends the object.
 fn write_sub_attributes(
     alloc: Global,
     out: &mut Writer,
@@ -303,7 +303,7 @@ fn write_sub_attributes(
     Ok(())
 }
 
-/// Writes the member of a multi-valued attribute, if it has a value.
+/// Writes the member for a multi-valued attribute, if `values` isn't empty.
 fn write_values(
     alloc: Global,
     out: &mut Writer,
@@ -360,7 +360,7 @@ fn write_value(
     Ok(())
 }
 
-/// Writes a member with this atom, if there is one.
+/// Writes a member with this name and this atom, or nothing if `atom` is `None`.
 fn write_member(
     alloc: Global,
     out: &mut Writer,

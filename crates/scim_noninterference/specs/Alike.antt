@@ -14,14 +14,14 @@ use Rattle.scim_shelf.specs.Stores.{has_name}
 abbrev pub is_in_use : List Content → Name → Bool
 is_in_use cs name = list_any (has_name name) cs
 
--- All resources of a store that the viewer sees, each with only the values that the viewer sees, and each
--- user with the groups that the viewer sees of it.
+-- All resources of a store that the viewer sees, each with only the values that the viewer sees. Each user
+-- lists those of its groups that the viewer sees.
 abbrev pub whole_view : Viewer → List Content → List Content
 whole_view v cs = views v (of_kind Group cs) cs
 
--- Two stores are alike for a viewer if it sees the same in both, the same unique names are in use, and the
--- resources that it sees have the same control: the values that the policy's targets name or that must be
--- unique.
+-- Two stores are alike for a viewer if the viewer sees the same in both, the same unique names are in use in
+-- both, and the visible resources have the same control in both: the values that the policy's targets name or
+-- that must be unique.
 pub record IsAlike (v : Viewer) (s t : List Content) : Type 0 where
   pub same_view : whole_view v s ≡ whole_view v t
   pub same_control : map (control v.policy) (filter (sees v) s) ≡ map (control v.policy) (filter (sees v) t)

@@ -1,4 +1,4 @@
--- A change of a resource, cell by cell.
+-- Changes of cells that are hidden from a viewer.
 use Rattle.std.specs.Prelude.{◌≡◌, ◌⊎◌, ℕ, false}
 use Rattle.scim_schema.specs.declared.Leaf.{Leaf}
 use Rattle.scim_cell.specs.Content.{Content}

@@ -1,4 +1,4 @@
--- The unique names that are in use after a turn (RFC 7643 section 2.2, uniqueness).
+-- The unique names that are in use after a request (RFC 7643 section 2.2, uniqueness).
 use Rattle.std.specs.Prelude.{◌≡◌, ℕ, Bool, false, not, ◌&&◌, ◌||◌, List, Option, None, Some}
 use Rattle.scim_schema.specs.declared.Unit.{Unit as AttributeUnit}
 use Rattle.scim_cell.specs.Content.{Content}
@@ -19,16 +19,16 @@ abbrev pub has_name_if : Name → Option Content → Bool
 has_name_if name None = false
 has_name_if name (Some c) = has_name name c
 
--- Whether a unique name is in use after a change, where `before` tells whether it was in use before. The
--- change first frees the names of `old`, the resource that it replaces or removes, and then adds the names of
--- the resource that it stores.
+-- Whether a unique name is in use after a change. `before` is whether the name was in use before. The change
+-- first frees the names of `old`, the resource that it replaces or removes, and then adds the names of the
+-- resource that it stores.
 abbrev pub in_use_after : Change → Option Content → Name → Bool → Bool
 in_use_after Nothing old name before = before
 in_use_after (Keep c) old name before = has_name name c || (before && not (has_name_if name old))
 in_use_after (Remove kind id) old name before = before && not (has_name_if name old)
 
--- The unique names in use after a turn depend only on the names in use before the turn, and on the names of
--- the resource that it changes, before and after the change.
+-- The unique names in use after a request depend only on the names in use before the request, and on the
+-- names that the changed resource has before and after the change.
 abbrev pub NamesAfterTurns : Type 0
 NamesAfterTurns =
     (policy : List Rule) (base : List ℕ) (turn : Turn) (store : Store) (old : Option Content) (name : Name)
@@ -43,7 +43,7 @@ NamesRestOnControl =
     → a.kind ≡ b.kind → control policy a ≡ control policy b → unique_names a ≡ unique_names b
 
 -- The control of a changed resource depends only on its kind, its control before the change, the new values
--- of the units that the change writes, and whether and when it changed.
+-- of the units that the change writes, and whether and when the resource changed.
 abbrev pub ControlRestsOnUnits : Type 0
 ControlRestsOnUnits =
     (policy : List Rule) (us : List AttributeUnit) (changed : Bool) (moment : ℕ) (a b x y : Content)

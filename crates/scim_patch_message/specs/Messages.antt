@@ -25,26 +25,27 @@ use Rattle.scim_patch_message.specs.PathSteps.{target_steps, is_fixed_target}
 
 -- ---- an operation without a path, where each key of the value is a path
 
--- whether a text is a path, but of an attribute that the kind lacks
+-- whether a path was read and refers to no attribute of the kind
 abbrev pub is_nothing : Option Meant → Bool
 is_nothing (Some meant.Nothing) = true
 is_nothing _ = false
 
--- whether a key is the path of an attribute that the kind lacks, such as `schemas`
+-- whether a key is a valid path that refers to no attribute in the kind's table; `schemas` isn't in the table
+-- either
 abbrev pub names_nothing : Kind → List ℕ → Bool
 names_nothing kind key = is_nothing (option_map (λ (p : FilterPath). p.meant) (path_in kind key))
 
--- the steps at one key: none if its target is readOnly or the kind lacks its attribute; the error `Path` if
--- it isn't a path
+-- the steps for one key; none if the target of the key is readOnly or the kind lacks the attribute; the error
+-- `Path` if the key isn't a valid path
 abbrev pub key_steps : Kind → Operation → List ℕ → Data → Result PathTarget PathFault → Read
 key_steps kind op key d (Ok target) = if is_fixed_target kind target then Ok [] else target_steps kind op target (present (Some d))
 key_steps kind op key d (Err f) = if names_nothing kind key then Ok [] else Err Path
 
--- the steps at one key with its value
+-- the steps for one key and its value
 abbrev pub member_steps : Kind → Operation → List ℕ → Data → Read
 member_steps kind op key d = key_steps kind op key d (target_in kind key)
 
--- the steps at all keys of the value; the error `Value` if the value isn't an object
+-- the steps for all keys of the value; the error `Value` if the value isn't an object
 abbrev pub object_steps : Kind → Operation → Option Members → Read
 object_steps kind op None = Err Value
 object_steps kind op (Some ms) = each_member (member_steps kind op) ms
@@ -57,7 +58,8 @@ pathless_steps kind Replace v = object_steps kind Replace (option_and_then as_ob
 
 -- ---- one operation
 
--- the steps of an operation at a target; the error `Value` if an add or replace has no value, not even null
+-- the steps of an operation with this target; the error `Value` if an add or replace has no value, not even
+-- null
 abbrev pub valued_steps : Kind → Operation → PathTarget → Option Data → Read
 valued_steps kind Remove target v = target_steps kind Remove target (present v)
 valued_steps kind Add target None = Err Value
@@ -65,8 +67,8 @@ valued_steps kind Add target (Some d) = target_steps kind Add target (present (S
 valued_steps kind Replace target None = Err Value
 valued_steps kind Replace target (Some d) = target_steps kind Replace target (present (Some d))
 
--- the steps of an operation at the target of its path; the error `Path` if the path has no target, whatever
--- the value is
+-- the steps of an operation with the target of its path; the error `Path`, whatever the value is, if the path
+-- has no target
 abbrev pub pathed_steps : Kind → Operation → Option Data → Result PathTarget PathFault → Read
 pathed_steps kind op v (Err f) = Err Path
 pathed_steps kind op v (Ok target) = valued_steps kind op target v
@@ -76,7 +78,7 @@ abbrev pub text_steps : Kind → Operation → Option Data → Option (List ℕ)
 text_steps kind op v None = Err Path
 text_steps kind op v (Some text) = pathed_steps kind op v (target_in kind text)
 
--- the steps of an operation with its path, if any, where null and `[]` count as no path
+-- the steps of an operation with an optional path; null and `[]` count as no path
 abbrev pub path_steps : Kind → Operation → Option Data → Option Data → Read
 path_steps kind op v None = pathless_steps kind op v
 path_steps kind op v (Some path) = text_steps kind op v (as_str path)
@@ -87,11 +89,11 @@ operation_name Add = codes "add"
 operation_name Replace = codes "replace"
 operation_name Remove = codes "remove"
 
--- the operation with this name, in any ASCII case
+-- the operation with this name, in any ASCII case; None if no operation has this name
 abbrev pub operation_named : List ℕ → Option Operation
 operation_named name = find (λ op. is_same_name (operation_name op) name) (Add ∷ Replace ∷ Remove ∷ [])
 
--- the steps of this operation, from the members of its object; the error `Syntax` if there is no operation
+-- the steps of the operation with these members of its object; the error `Syntax` if there is no operation
 abbrev pub named_steps : Kind → Members → Option Operation → Read
 named_steps kind ms None = Err Syntax
 named_steps kind ms (Some op) = path_steps kind op (value_named (codes "value") ms) (given_named (codes "path") ms)
@@ -100,12 +102,12 @@ named_steps kind ms (Some op) = path_steps kind op (value_named (codes "value") 
 abbrev pub keys_clash : Members → Bool
 keys_clash ms = list_any (λ key. is_twice key ms) (codes "op" ∷ codes "path" ∷ codes "value" ∷ [])
 
--- the operation that the member `op` names, if it names one
+-- the operation that the member `op` names; None if `op` is missing or names no operation
 abbrev pub member_operation : Members → Option Operation
 member_operation ms = option_and_then operation_named (option_and_then as_str (value_named (codes "op") ms))
 
--- the steps of an operation's object; the error `Syntax` if it isn't an object or has `op`, `path` or
--- `value` in two spellings
+-- the steps of an operation with this object; the error `Syntax` if there is no object, `op` isn't a known
+-- operation, or `op`, `path` or `value` occurs in two spellings
 abbrev pub object_operation : Kind → Option Members → Read
 object_operation kind None = Err Syntax
 object_operation kind (Some ms) = if keys_clash ms then Err Syntax else named_steps kind ms (member_operation ms)
@@ -120,31 +122,34 @@ operation_steps kind d = object_operation kind (as_object d)
 abbrev pub if_few : List Data → Read
 if_few ds = if nat_lt MOST_OPERATIONS (length ds) then Err Value else Ok []
 
--- the steps of all operations; the error `Syntax` if there are none
+-- the steps of all operations; the error `Syntax` if there are no operations, or the error `Value` if there
+-- are over 1,000
 abbrev pub list_steps : Kind → List Data → Read
 list_steps kind [] = Err Syntax
 list_steps kind (d ∷ ds) = joined (if_few (d ∷ ds) ∷ map (operation_steps kind) (d ∷ ds))
 
--- the steps of the operations in a list; the error `Syntax` if it isn't a list
+-- the steps of the operations in a list; the error `Syntax` if there is no list
 abbrev pub items_steps : Kind → Option Items → Read
 items_steps kind None = Err Syntax
 items_steps kind (Some items) = list_steps kind (items_list items)
 
--- the steps of a message's object, whose key `Operations` may be in any ASCII case but only in one spelling
+-- the steps of a message with this object; the key `Operations` may be in any ASCII case; the error `Syntax`
+-- if there is no object, or the key occurs in two spellings
 abbrev pub object_message : Kind → Option Members → Read
 object_message kind None = Err Syntax
 object_message kind (Some ms) =
     if is_twice (codes "Operations") ms then Err Syntax else items_steps kind (option_and_then as_array (value_named (codes "Operations") ms))
 
--- the steps of a message with this JSON value; the error `Syntax` if it isn't JSON
+-- the steps of a message with this JSON value; the error `Syntax` if there is no value, since the message
+-- isn't JSON, or the value isn't an object
 unfoldable pub message_steps : Kind → Option Data → Read
 message_steps kind d = object_message kind (option_and_then as_object d)
 
--- the patch of these steps, or their fault
+-- the patch with these steps, or the fault
 abbrev pub patch_of_steps : Kind → Read → Result Patch PatchFault
 patch_of_steps kind (Ok steps) = Ok (record { kind = kind; steps = steps })
 patch_of_steps kind (Err f) = Err f
 
--- the patch of a message with this JSON value, or its fault
+-- the patch of a message with this JSON value, or the fault of the message
 abbrev pub patch_in : Kind → Option Data → Result Patch PatchFault
 patch_in kind d = patch_of_steps kind (message_steps kind d)

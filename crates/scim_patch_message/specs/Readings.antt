@@ -6,11 +6,11 @@ use Rattle.scim_patch_steps.specs.Patch.{Step}
 use Rattle.scim_patch_message.specs.declared.faults.PatchFault.{PatchFault}
 use Rattle.scim_patch_message.specs.declared.faults.PatchFault.TheVariants.{Syntax, Path, Value}
 
--- the steps of a part of the message, or its fault
+-- the steps of a part of the message, or the fault of that part
 abbrev pub Read : Type 0
 Read = Result (List Step) PatchFault
 
--- the fault of higher priority: `Syntax` before `Path` before `Value`
+-- whichever of two faults has the higher priority: `Syntax` before `Path` before `Value`
 abbrev pub first_of : PatchFault → PatchFault → PatchFault
 first_of Syntax f = Syntax
 first_of Path Syntax = Syntax
@@ -18,7 +18,7 @@ first_of Path Path = Path
 first_of Path Value = Path
 first_of Value f = f
 
--- the steps of two parts one after the other, or the fault of higher priority
+-- the steps of two parts, one after the other, or the fault of highest priority
 abbrev pub both : Read → Read → Read
 both (Ok xs) (Ok ys) = Ok (xs ++ ys)
 both (Ok xs) (Err f) = Err f
@@ -35,7 +35,7 @@ abbrev pub each_member : (List ℕ → Data → Read) → Members → Read
 each_member read no_members = Ok []
 each_member read (member k d ms) = both (read k d) (each_member read ms)
 
--- the steps of a value; the error `Syntax` if two of its keys name one sub-attribute, otherwise the error
--- `Value` if it is wrong
+-- the steps of a value; the error `Syntax` if the Bool is true (two keys of the value name one
+-- sub-attribute), or else the error `Value` if there are no steps, because the value is wrong
 abbrev pub value_read : Bool → Option (List Step) → Read
 value_read clashes steps = if clashes then Err Syntax else ok_or steps Value

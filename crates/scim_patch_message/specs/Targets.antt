@@ -11,7 +11,8 @@ use Rattle.scim_path.specs.declared.faults.PathFault.{PathFault}
 use Rattle.scim_path.specs.declared.faults.PathFault.TheVariants as fault
 use Rattle.scim_path.specs.Paths.{PathTarget, OfExtension, extension_named, written_target, Names}
 
--- the path that the text spells; None if it spells none, has over 4,096 bytes, or nests over 32 brackets
+-- the path that the text spells; None if the text isn't a path, has over 4,096 bytes, or nests over 32
+-- brackets
 abbrev pub written_in : Kind → List ℕ → Option Written
 written_in kind text = if nat_le (length text) LONGEST_FILTER then result_ok (written_at 32 kind (behind is_space text)) else None
 
@@ -20,15 +21,16 @@ abbrev pub spelled_target : Option Written → Result PathTarget PathFault
 spelled_target None = Err fault.Syntax
 spelled_target (Some w) = written_target w
 
--- the target: the extension if its URN is the whole text, otherwise the target of the path
+-- the target of a text: the extension, if the text is the URN of an extension; otherwise the target of the
+-- path that the text spells
 abbrev pub target_with : Option Schema → Option Written → Result PathTarget PathFault
 target_with (Some schema) w = Ok (OfExtension schema)
 target_with None w = spelled_target w
 
--- the target that a text names for a kind, or the fault if it names none
+-- the target that a text names for a kind, or the fault if the text names no target
 unfoldable pub target_in : Kind → List ℕ → Result PathTarget PathFault
 target_in kind text = target_with (extension_named kind text) (written_in kind text)
 
--- `target_in` is, for every text, the target that the grammar of paths defines for it
+-- for every text, `target_in` is the target or the fault that the grammar of paths defines for the text
 abbrev pub TargetsAreNamed : Type 0
 TargetsAreNamed = (kind : Kind) (text : List ℕ) → Names kind text (target_in kind text)

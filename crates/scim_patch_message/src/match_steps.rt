@@ -1,6 +1,7 @@
-//! The steps of an operation at a sub-attribute, or at values that match a filter (RFC 7644 section 3.5.2).
-//! Each function appends the steps to the reading, or records a fault in it. A value is `None` if it is null
-//! or `[]`, or missing from a remove.
+//! The steps of an operation whose path names a sub-attribute, or values that match a filter (RFC 7644
+//! section 3.5.2).
+//! Each function appends the steps to `reading`, or records a fault in it. `value` is `None` if the operation
+//! has the value null or `[]`, or is a remove without a value.
 ghost use Rattle.std.specs.Prelude.{◌≡◌, OnOk, Ok, option_map};
 ghost use Rattle.scim_body.specs.View.{view};
 ghost use Rattle.scim_filter_grammar.specs.Tree.{tree_of};
@@ -21,7 +22,7 @@ use scim_schema::{
 use scim_text::{Failed, NoMemory};
 use std::alloc::Global;
 
-/// Returns the change that keeps a sub-attribute as it is.
+/// Returns the change that leaves a sub-attribute unchanged.
 fn sub_attribute_kept(attribute: Attribute, sub_attribute: SubAttribute) -> StepChange
     ensures { change_of result ≡ spec.sub_attribute_kept attribute sub_attribute }
 {
@@ -32,7 +33,8 @@ fn sub_attribute_kept(attribute: Attribute, sub_attribute: SubAttribute) -> Step
     }
 }
 
-/// Returns the change that removes a sub-attribute, from each value if the attribute is multi-valued.
+/// Returns the change that removes a sub-attribute. If the attribute is multi-valued, the change removes the
+/// sub-attribute from each value.
 fn sub_attribute_cleared(attribute: Attribute, sub_attribute: SubAttribute) -> StepChange
     ensures { change_of result ≡ spec.sub_attribute_cleared attribute sub_attribute }
 {
@@ -43,7 +45,8 @@ fn sub_attribute_cleared(attribute: Attribute, sub_attribute: SubAttribute) -> S
     }
 }
 
-/// Appends the step that sets a sub-attribute to a value, in each value if the attribute is multi-valued.
+/// Appends the step that sets a sub-attribute to `value`; if the attribute is multi-valued, in each of its
+/// values. Records the fault `Value` if `value` is wrong.
 fn push_sub_attribute_set(
     alloc: Global,
     kind: Kind,
@@ -70,7 +73,8 @@ fn push_sub_attribute_set(
     reading.push(given.unit, StepChange::Replace(given.values))
 }
 
-/// Appends the step of an operation at a sub-attribute.
+/// Appends the step of an operation whose target is a sub-attribute. For a readOnly sub-attribute the value
+/// isn't read, and the step is refused when the patch is applied.
 #[tactic(auto, unfolding(crate::specs::PathSteps::sub_attribute_steps))]
 pub(crate) fn push_sub_attribute(
     alloc: Global,
@@ -101,8 +105,9 @@ pub(crate) fn push_sub_attribute(
     }
 }
 
-/// Appends the step that replaces each value that matches the filter by `value` if `replaces`, and otherwise
-/// adds the sub-attributes of `value` to each match. A list is the fault `Value`.
+/// Appends the step that replaces each value that matches the filter by `value` if `replaces` is true, or
+/// else sets the sub-attributes of `value` in each match. Records the fault `Syntax` if two keys of `value`
+/// name one sub-attribute, or else `Value` if `value` is wrong or a list.
 fn push_matches_given(
     alloc: Global,
     kind: Kind,
@@ -138,7 +143,8 @@ fn push_matches_given(
     }
 }
 
-/// Appends the step of an operation at the values that match a filter.
+/// Appends the step of an operation whose target is the values that match a filter. For a readOnly attribute
+/// the value isn't read, and the step is refused when the patch is applied.
 #[tactic(auto, unfolding(crate::specs::PathSteps::matches_steps))]
 pub(crate) fn push_matches(
     alloc: Global,
@@ -171,8 +177,9 @@ pub(crate) fn push_matches(
     }
 }
 
-/// Appends the step that sets a sub-attribute to a value in each value that matches the filter.
-/// It is a replace if `replaces`, otherwise an add.
+/// Appends the step that sets a sub-attribute to `value` in each value of the attribute that matches the
+/// filter. The step is a replace if `replaces` is true, or else an add. Records the fault `Value` if `value`
+/// is wrong.
 fn push_at_matches_given(
     alloc: Global,
     kind: Kind,
@@ -206,7 +213,8 @@ fn push_at_matches_given(
     }
 }
 
-/// Appends the step of an operation at a sub-attribute of the values that match a filter.
+/// Appends the step of an operation whose target is a sub-attribute of the values that match a filter. For a
+/// readOnly sub-attribute the value isn't read, and the step is refused when the patch is applied.
 #[tactic(auto, unfolding(crate::specs::PathSteps::at_matches_steps))]
 pub(crate) fn push_at_matches(
     alloc: Global,

@@ -22,7 +22,7 @@ pub(crate) struct Reading {
 }
 
 impl PatchFault {
-    /// Returns the fault of higher priority.
+    /// Returns `self` or `other`, whichever has the higher priority: `Syntax` before `Path` before `Value`.
     fn or_before(self, other: PatchFault) -> PatchFault
         ensures { result ≡ first_of self other }
     {
@@ -45,7 +45,7 @@ impl Reading {
         }
     }
 
-    /// Records a fault.
+    /// Records a fault. Only the fault of highest priority is kept.
     pub(crate) fn refuse(&mut self, fault: PatchFault)
         ensures { read_of self.new ≡ both (read_of self.old) (Err fault) }
     {
@@ -64,7 +64,7 @@ impl Reading {
         Ok(())
     }
 
-    /// Appends a remove without a path.
+    /// Appends the step for a remove without a path, which is refused when the patch is applied.
     pub(crate) fn push_pathless(&mut self) -> Result<(), NoMemory>
         ensures { OnOk result (read_of self.new
             ≡ both (read_of self.old) (Ok (step_of Step.Pathless ∷ []))) }
@@ -73,7 +73,7 @@ impl Reading {
         Ok(())
     }
 
-    /// Appends steps that set the units to the values given for them.
+    /// Appends a step for each of the units, which sets the unit to the values given for it.
     pub(crate) fn set_units(&mut self, given: Vec<UnitGiven>) -> Result<(), NoMemory>
         ensures { OnOk result (read_of self.new
             ≡ both (read_of self.old) (Ok (map set_to (units_given given.items)))) }

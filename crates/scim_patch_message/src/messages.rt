@@ -23,8 +23,8 @@ use scim_schema::{Kind, MOST_OPERATIONS};
 use scim_text::{Failed, NoMemory};
 use std::alloc::Global;
 
-/// Appends the steps of an operation at the target of a path. An add or replace without a value is
-/// the fault `Value`.
+/// Appends the steps of an operation whose target is named by `path`. Records the fault `Value` if an add or
+/// replace has no value.
 fn push_valued(
     alloc: Global,
     kind: Kind,
@@ -49,7 +49,8 @@ fn push_valued(
     }
 }
 
-/// Appends the steps of an operation that has this text as its path.
+/// Appends the steps of an operation whose path is `text`. Records the fault `Path` if the text isn't a valid
+/// path or names an attribute that the kind lacks.
 fn push_text(
     alloc: Global,
     kind: Kind,
@@ -72,7 +73,8 @@ fn push_text(
     }
 }
 
-/// Appends the steps of this operation, with the path and value in the members of its object.
+/// Appends the steps of an operation, whose `path` and `value` are among the `members` of its JSON object.
+/// Records the fault `Path` if `path` is present but isn't a string.
 fn push_named(
     alloc: Global,
     kind: Kind,
@@ -103,7 +105,7 @@ fn keys_clash(members: &[Member<'_>]) -> bool
     is_twice(members, "op") || is_twice(members, "path") || is_twice(members, "value")
 }
 
-/// Returns the operation that `op` names. `None` if it names none.
+/// Returns the operation that the member `op` names. `None` if `op` is missing or names no operation.
 fn operation_of(members: &[Member<'_>]) -> Option<Operation>
     ensures { result ≡ spec.member_operation (members_view members.now) }
 {
@@ -111,7 +113,8 @@ fn operation_of(members: &[Member<'_>]) -> Option<Operation>
     Operation::named(name)
 }
 
-/// Appends the steps of an operation, from the members of its object.
+/// Appends the steps of an operation with these members of its JSON object. Records the fault `Syntax` if
+/// `op` isn't a known operation, or if `op`, `path` or `value` occurs in two spellings.
 fn push_object(
     alloc: Global,
     kind: Kind,
@@ -134,7 +137,7 @@ fn push_object(
     }
 }
 
-/// Appends the steps of one operation.
+/// Appends the steps of one operation. Records the fault `Syntax` if `item` isn't an object.
 #[tactic(auto, unfolding(crate::specs::Messages::operation_steps))]
 fn push_operation(
     alloc: Global,
@@ -154,7 +157,7 @@ fn push_operation(
     }
 }
 
-/// Appends the steps of the operations, in their order.
+/// Appends the steps of all operations, in the order of the operations.
 fn push_operations(
     alloc: Global,
     kind: Kind,
@@ -180,7 +183,7 @@ fn refuse_many(items: &[Tree<'_>], reading: &mut Reading)
     }
 }
 
-/// Appends the steps of a message's list of operations, which must not be empty.
+/// Appends the steps of a message's list of operations. Records the fault `Syntax` if the list is empty.
 fn push_list(
     alloc: Global,
     kind: Kind,
@@ -198,7 +201,8 @@ fn push_list(
     push_operations(alloc, kind, items, reading)
 }
 
-/// Appends the steps of a message, from the members of its object.
+/// Appends the steps of a message with these members of its JSON object. Records the fault `Syntax` if
+/// `Operations` isn't a list or occurs in two spellings.
 fn push_message(
     alloc: Global,
     kind: Kind,
@@ -221,7 +225,7 @@ fn push_message(
     }
 }
 
-/// Reads the steps and faults of a message's text.
+/// Reads the text of a message. Returns its steps and its fault of highest priority, if it has a fault.
 #[tactic(auto, unfolding(crate::specs::Messages::message_steps))]
 fn reading_of(alloc: Global, kind: Kind, text: &str) -> Result<Reading, NoMemory>
     ensures { IfOk result (λ r. read_of r ≡ spec.message_steps kind (read text.now)) }
@@ -244,17 +248,18 @@ fn reading_of(alloc: Global, kind: Kind, text: &str) -> Result<Reading, NoMemory
 }
 
 /// Reads the patch of a PATCH message for resources of the kind (RFC 7644 section 3.5.2).
-/// The patch has the steps of the operations, in their order. Keys of the message and of its operations, and
-/// the value of `op`, match in any ASCII case; other values are read as `read_body` reads them. In an
-/// operation without a path each key of the value is a path, and the operation has steps at each of these
+/// The patch has the steps of the operations, in the order of the operations. Keys of the message and of its
+/// operations, and the value of `op`, match in any ASCII case; other values are read as in `read_body`. In an
+/// operation without a path each key of the value is a path, and the operation has steps for each of these
 /// paths; keys with a readOnly target, and keys of attributes that the kind lacks, are ignored.
 ///
-/// An operation at the URN of an extension applies to each attribute in the value. An operation at a
-/// single-valued complex attribute applies to each sub-attribute in the value. A remove applies to all
-/// attributes of the extension, or all sub-attributes. A replace by null or `[]` is a remove. An add of null
-/// or `[]` changes nothing: it has no step at an extension or a single-valued complex attribute, and
-/// otherwise a step that touches its unit. The value for a readOnly target isn't read, and its step is
-/// refused when the patch is applied; a single-valued complex attribute that is readOnly has no step.
+/// An operation whose path is the URN of an extension applies to each attribute in the value. An operation
+/// whose path is a single-valued complex attribute applies to each sub-attribute in the value. A remove with
+/// such a path applies to all attributes of the extension, or to all sub-attributes. A replace by null or
+/// `[]` is a remove. An add of null or `[]` changes nothing: it has no step if the path is an extension or a
+/// single-valued complex attribute, and otherwise a step that leaves the unit unchanged. The value for a
+/// readOnly target isn't read, and the step is refused when the patch is applied; a single-valued complex
+/// attribute that is readOnly has no step.
 ///
 /// The whole message is checked. Fails with the first fault in this list that the message has:
 ///

@@ -4,7 +4,7 @@ ghost use Rattle.scim_patch_message.specs.Messages as spec;
 
 use scim_text::same_name;
 
-/// The operation of a PATCH at a path (RFC 7644 section 3.5.2).
+/// The kind of an operation in a PATCH message (RFC 7644 section 3.5.2).
 #[derive(Clone, Copy, PartialEq, Eq)]
 pub enum Operation {
     Add,
@@ -13,7 +13,7 @@ pub enum Operation {
 }
 
 impl Operation {
-    /// Returns the operation with this name, in any ASCII case. `None` if there is none.
+    /// Returns the operation with this name, in any ASCII case. `None` if no operation has this name.
     pub(crate) fn named(name: &str) -> Option<Operation>
         ensures { result ≡ spec.operation_named name.now }
     {

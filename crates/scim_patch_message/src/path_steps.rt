@@ -1,6 +1,6 @@
 //! The steps of an operation whose path names an attribute (RFC 7644 section 3.5.2).
-//! Each function appends the steps to the reading, or records a fault in it. A value is `None` if it is null
-//! or `[]`, or missing from a remove.
+//! Each function appends the steps to `reading`, or records a fault in it. `value` is `None` if the operation
+//! has the value null or `[]`, or is a remove without a value.
 ghost use Rattle.std.specs.Prelude.{◌≡◌, ◌∷◌, [], IfOk, OnOk, Ok, map, option_map};
 ghost use Rattle.std.specs.List.{flat_map};
 ghost use Rattle.scim_body.specs.View.{view};
@@ -23,7 +23,8 @@ use scim_schema::{
 use scim_text::{Failed, NoMemory, push};
 use std::alloc::Global;
 
-/// Appends the step that keeps an attribute as it is, or no step if it is single-valued and complex.
+/// Appends a step that leaves the attribute unchanged, or no step if the attribute is single-valued and
+/// complex.
 fn push_kept(attribute: Attribute, reading: &mut Reading) -> Result<(), NoMemory>
     ensures { OnOk result (read_of reading.new
         ≡ both (read_of reading.old) (Ok (spec.kept_steps attribute (shape_in attribute)))) }
@@ -36,7 +37,7 @@ fn push_kept(attribute: Attribute, reading: &mut Reading) -> Result<(), NoMemory
     }
 }
 
-/// Appends the step that clears a unit, unless it is readOnly.
+/// Appends the step that clears the unit. Appends nothing if the unit is readOnly.
 fn push_unit_cleared(kind: Kind, unit: Unit, reading: &mut Reading) -> Result<(), NoMemory>
     ensures { OnOk result (read_of reading.new
         ≡ both (read_of reading.old) (spec.unit_cleared kind unit)) }
@@ -47,7 +48,7 @@ fn push_unit_cleared(kind: Kind, unit: Unit, reading: &mut Reading) -> Result<()
     reading.push(unit, StepChange::Clear)
 }
 
-/// Appends the steps that clear these sub-attributes of a single-valued attribute.
+/// Appends the steps that clear these sub-attributes of a single-valued attribute, except readOnly ones.
 fn push_sub_attributes_cleared(
     kind: Kind,
     attribute: Attribute,
@@ -63,7 +64,7 @@ fn push_sub_attributes_cleared(
     Ok(())
 }
 
-/// Appends the steps that clear each unit of an attribute, in schema order.
+/// Appends the steps that clear each unit of an attribute, except readOnly ones, in schema order.
 fn push_cleared(kind: Kind, attribute: Attribute, reading: &mut Reading) -> Result<(), NoMemory>
     ensures { OnOk result (read_of reading.new
         ≡ both (read_of reading.old) (spec.cleared kind attribute)) }
@@ -78,7 +79,8 @@ fn push_cleared(kind: Kind, attribute: Attribute, reading: &mut Reading) -> Resu
     push_sub_attributes_cleared(kind, attribute, own, reading)
 }
 
-/// Appends the steps of an operation without a value at an attribute.
+/// Appends the steps of an operation without a value whose target is an attribute. An add leaves the
+/// attribute unchanged; a replace or remove clears it.
 fn push_emptied(
     kind: Kind,
     operation: Operation,
@@ -94,7 +96,8 @@ fn push_emptied(
     }
 }
 
-/// Appends the steps that set a single-valued attribute to a value.
+/// Appends the steps that set a single-valued attribute to a value. Records the fault `Syntax` if two keys of
+/// the value name one sub-attribute, or else `Value` if the value is wrong.
 fn push_set(
     alloc: Global,
     kind: Kind,
@@ -120,7 +123,8 @@ fn push_set(
     }
 }
 
-/// Returns the texts of the sub-attribute `value` in these values, in their order.
+/// Returns the text of the sub-attribute `value` of each of `values`, in order. Skips values without such a
+/// text.
 fn value_texts(alloc: Global, attribute: Attribute, values: &[Row]) -> Result<Vec<Text>, NoMemory>
     ensures { IfOk result (λ v. v.items ≡ flat_map (spec.value_text attribute) values.now) }
 {
@@ -134,7 +138,8 @@ fn value_texts(alloc: Global, attribute: Attribute, values: &[Row]) -> Result<Ve
     Ok(texts)
 }
 
-/// Returns the change that an operation with a list of values makes to a multi-valued attribute.
+/// Returns the change that an operation with these values makes to a multi-valued attribute. An add appends
+/// the values, a replace sets them, and a remove removes the values that have the same `value`.
 fn listed_change(
     alloc: Global,
     operation: Operation,
@@ -152,7 +157,9 @@ fn listed_change(
     })
 }
 
-/// Appends the step of an operation with a value or a list of values at a multi-valued attribute.
+/// Appends the step of an operation with a value or a list of values whose target is a multi-valued
+/// attribute. Records the fault `Syntax` if two keys of one value name one sub-attribute, or else `Value` if
+/// a value is wrong.
 fn push_listed(
     alloc: Global,
     kind: Kind,
@@ -182,7 +189,7 @@ fn push_listed(
     }
 }
 
-/// Appends the steps of an operation with a value at an attribute that isn't readOnly.
+/// Appends the steps of an operation with a value whose target is an attribute that isn't readOnly.
 fn push_given(
     alloc: Global,
     kind: Kind,
@@ -203,9 +210,9 @@ fn push_given(
     }
 }
 
-/// Appends the steps of an operation at an attribute.
-/// The step at a readOnly attribute is refused when the patch is applied. A single-valued complex attribute
-/// that is readOnly has no step.
+/// Appends the steps of an operation whose target is an attribute.
+/// For a readOnly attribute the value isn't read, and the step is refused when the patch is applied; a
+/// single-valued complex attribute that is readOnly has no step.
 #[tactic(auto, unfolding(crate::specs::PathSteps::attribute_steps))]
 pub(crate) fn push_attribute(
     alloc: Global,

@@ -1,4 +1,4 @@
-//! The steps of an operation at the target of its path (RFC 7644 section 3.5.2).
+//! The steps of an operation with a path (RFC 7644 section 3.5.2).
 ghost use Rattle.std.specs.Prelude.{◌≡◌, Some, OnOk, option_map, map};
 ghost use Rattle.scim_body.specs.View.{view, members_view};
 ghost use Rattle.scim_text.specs.Failures.{UnlessMemory};
@@ -30,9 +30,10 @@ pub(crate) fn present<'a, 'b>(value: &'a Tree<'b>) -> Option<&'a Tree<'b>>
     if is_absent(value) { None } else { Some(value) }
 }
 
-/// Reads a text as a path, for a kind.
+/// Reads a text as the path of a change to resources of the kind.
 ///
-/// Fails as [`read_path`] does.
+/// Fails with the fault of [`read_path`] if the text isn't a valid path or names an attribute that the kind
+/// lacks.
 pub(crate) fn target_of(alloc: Global, kind: Kind, text: &str) -> Result<Path, Failed<PathFault>>
     ensures { UnlessMemory (λ r. target_in kind text.now ≡ target_read r) result }
 {
@@ -40,7 +41,8 @@ pub(crate) fn target_of(alloc: Global, kind: Kind, text: &str) -> Result<Path, F
     read_path(alloc, kind, text)
 }
 
-/// Whether the target of a path is readOnly as a whole.
+/// Whether the attribute or sub-attribute that `path` names is readOnly. False for an extension. For a value
+/// path, whether the attribute is readOnly.
 pub(crate) fn is_fixed_path(kind: Kind, path: &Path) -> bool
     ensures { result ≡ spec.is_fixed_target kind (path_target path.now) }
 {
@@ -54,7 +56,8 @@ pub(crate) fn is_fixed_path(kind: Kind, path: &Path) -> bool
     }
 }
 
-/// Appends the steps that remove an attribute, if it belongs to the extension.
+/// Appends the steps that remove the attribute. Appends nothing if the attribute doesn't belong to the
+/// extension `schema`.
 fn push_own(
     alloc: Global,
     kind: Kind,
@@ -71,7 +74,7 @@ fn push_own(
     push_attribute(alloc, kind, Operation::Remove, attribute, None, reading)
 }
 
-/// Appends the steps that remove those of `attributes` that belong to the extension.
+/// Appends the steps that remove each of `attributes` that belongs to the extension `schema`.
 fn push_all_own(
     alloc: Global,
     kind: Kind,
@@ -88,7 +91,7 @@ fn push_all_own(
     Ok(())
 }
 
-/// Appends the steps of an operation at one key of an extension's object.
+/// Appends the steps of an operation for one key of the JSON object of an extension.
 /// A key that doesn't name an attribute of the extension is ignored.
 fn push_own_member(
     alloc: Global,
@@ -110,7 +113,8 @@ fn push_own_member(
     }
 }
 
-/// Appends the steps of an operation at each key of an extension's object, in byte order of the keys.
+/// Appends the steps of an operation for each key of the JSON object of an extension, in byte order of the
+/// keys.
 fn push_own_members(
     alloc: Global,
     kind: Kind,
@@ -128,7 +132,8 @@ fn push_own_members(
     Ok(())
 }
 
-/// Appends the steps of an operation at a whole extension.
+/// Appends the steps of an operation whose target is a whole extension. `value` is `None` if it is null, `[]`
+/// or missing. Records the fault `Value` if an add or replace has a value that isn't an object.
 #[tactic(auto, unfolding(crate::specs::PathSteps::extension_steps))]
 fn push_extension(
     alloc: Global,
@@ -156,7 +161,8 @@ fn push_extension(
     }
 }
 
-/// Appends the step of an operation at the values that match a filter, or at a sub-attribute of them.
+/// Appends the step of an operation whose target is the values that match a filter, or a sub-attribute of
+/// these values. Records a fault instead if the value is wrong.
 fn push_values(
     alloc: Global,
     kind: Kind,
@@ -189,7 +195,8 @@ fn push_values(
     }
 }
 
-/// Appends the steps of an operation at the target of a path.
+/// Appends the steps of an operation whose target is named by `path`, or records a fault. `value` is `None`
+/// if it is null, `[]` or missing.
 pub(crate) fn push_target(
     alloc: Global,
     kind: Kind,

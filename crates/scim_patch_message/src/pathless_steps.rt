@@ -1,4 +1,5 @@
-//! The steps of an operation without a path: the steps at each key of its value (RFC 7644 section 3.5.2).
+//! The steps of an operation without a path. Each key of the value is a path with its own steps (RFC 7644
+//! section 3.5.2).
 ghost use Rattle.std.specs.Prelude.{◌≡◌, OnOk, option_map};
 ghost use Rattle.scim_body.specs.View.{view, members_view};
 ghost use Rattle.scim_patch_message.specs.Messages as spec;
@@ -15,7 +16,7 @@ use scim_schema::Kind;
 use scim_text::{Failed, NoMemory};
 use std::alloc::Global;
 
-/// Whether a key is the path of an attribute that the kind lacks.
+/// Whether the key is a valid path of an attribute that the kind lacks.
 fn names_nothing(kind: Kind, key: &str) -> bool
     ensures { result ≡ spec.names_nothing kind key.now }
 {
@@ -25,8 +26,9 @@ fn names_nothing(kind: Kind, key: &str) -> bool
     }
 }
 
-/// Appends the steps of an operation without a path at one key of its value.
-/// The key is a path. A readOnly target is ignored, and so is an attribute that the kind lacks.
+/// Appends the steps of an operation without a path for one key of the value. The key is a path.
+/// Keys of readOnly targets and of attributes that the kind lacks are ignored. Records the fault `Path` if
+/// the key isn't a valid path, or the fault of the value if the value is wrong.
 fn push_member(
     alloc: Global,
     kind: Kind,
@@ -55,7 +57,7 @@ fn push_member(
     }
 }
 
-/// Appends the steps of an operation without a path at each key of its value, in byte order of the keys.
+/// Appends the steps of an operation without a path for each key of the value, in byte order of the keys.
 fn push_members(
     alloc: Global,
     kind: Kind,
@@ -72,7 +74,8 @@ fn push_members(
     Ok(())
 }
 
-/// Appends the steps of an operation without a path.
+/// Appends the steps of an operation without a path. A remove has a step that is refused when the patch is
+/// applied. Records the fault `Value` if an add or replace has a value that isn't an object.
 pub(crate) fn push_pathless(
     alloc: Global,
     kind: Kind,

@@ -7,8 +7,8 @@ use Rattle.scim_filter_grammar.specs.Tree.{Tree, tree_of}
 use Rattle.scim_patch_steps.specs.declared.changes.StepChange.{StepChange as KeptChange}
 use Rattle.scim_patch_steps.specs.declared.changes.StepChange.TheVariants as kept
 
--- a change of the values of a unit: an operation with a form of path (RFC 7644 section 3.5.2); each tree is
--- a value path
+-- a change of the values of a unit; the variants combine an operation with a form of path (RFC 7644 section
+-- 3.5.2); each tree is a value path
 pub data StepChange : Type 0 where
   Keep : StepChange
   KeepMatches : Tree → StepChange

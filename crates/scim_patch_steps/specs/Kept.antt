@@ -23,7 +23,7 @@ step_of (kept.Of u change) = Of u (change_of change)
 abbrev pub patch_of : Kept → Patch
 patch_of p = record { kind = p.kind; steps = map step_of p.steps }
 
--- the resource and whether it changed, or the fault, that a result in code represents
+-- the outcome that a result in code represents: the resource and whether the patch changed it, or the fault
 abbrev pub outcome : Result Changed StepFault → Result (Content × Bool) StepFault
 outcome (Ok c) = Ok (c.resource, c.changed)
 outcome (Err e) = Err e

@@ -7,14 +7,14 @@ use Rattle.scim_patch_steps.specs.declared.steps.StepFault.{StepFault}
 use Rattle.scim_change.specs.Laws.{AgreeAt, IsLeft}
 use Rattle.scim_patch_steps.specs.Patch.{Patch, IsPatch, touched, applied}
 
--- two outcomes are alike: both are the same fault, or both changed or neither did, and the resources have
--- equal values of the units and each keep their other values
+-- two outcomes are alike: both are the same fault, or the patch changed both resources or neither, both have
+-- equal values of these units, and each keeps its values of all other units except `meta.lastModified`
 abbrev pub AreAlike : List AttributeUnit → ℕ → Content → Content → Result (Content × Bool) StepFault → Result (Content × Bool) StepFault → Type 0
 AreAlike us moment a b (Err e) (Err f) = e ≡ f
 AreAlike us moment a b (Ok x) (Ok y) = (x.1 ≡ y.1) × AgreeAt us x.0 y.0 × IsLeft us x.1 moment a x.0 × IsLeft us y.1 moment b y.0
 AreAlike us moment a b _ _ = ⊥
 
--- patching two resources with equal values at the units of the patch has alike outcomes
+-- if two resources have equal values of the units that a patch names, the outcomes of patching them are alike
 abbrev pub PatchingRestsOnItsUnits : Type 0
 PatchingRestsOnItsUnits =
     (p : Patch) (moment : ℕ) (a b : Content)

@@ -30,20 +30,21 @@ pub record Patch : Type 0 where
 
 -- ---- valid steps
 
--- the fields are ones that a client may give for one value of the unit
+-- the unit's attribute is multi-valued, and a client may give these fields for one of its values
 pub record AreGivenFields (kind : Kind) (u : AttributeUnit) (fs : List Field) : Type 0 where
   pub many : is_multi_valued u.attribute ≡ true
   pub own : All (IsSoundField kind u) fs
   pub in_order : AllPairs (λ f g. sub_attribute_number f.leaf.sub_attribute < sub_attribute_number g.leaf.sub_attribute) fs
   pub may_be_given : All (MayBeGiven kind) fs
 
--- the values are ones that a client may give for the unit
+-- a client may give these values for the unit
 pub record AreGivenValues (kind : Kind) (u : AttributeUnit) (vs : List Row) : Type 0 where
   pub own : AreValues kind u vs
   pub may_be_given : All (λ r. All (MayBeGiven kind) r.fields) vs
 
--- a change of a unit may be applied to a resource of the kind: a client may give its values, only a
--- multi-valued attribute is changed value by value, and a required unit is replaced by exactly one value
+-- a change of a unit may be applied to a resource of the kind: a client may give the values in the change,
+-- only a multi-valued attribute is changed value by value, and a required unit is replaced by exactly one
+-- value
 abbrev pub MayBeMade : Kind → AttributeUnit → StepChange → Type 0
 MayBeMade kind u Keep = Unit {0}
 MayBeMade kind u Clear = Unit {0}
@@ -56,7 +57,7 @@ MayBeMade kind u (SetAtMatches t f) = AreGivenFields kind u (f ∷ [])
 MayBeMade kind u (SetEverywhere f) = AreGivenFields kind u (f ∷ [])
 MayBeMade kind u _ = is_multi_valued u.attribute ≡ true
 
--- a step is valid for the kind: the kind has its unit, and its change may be applied to the unit
+-- a step is valid for the kind: the kind has the unit of the step, and the change may be applied to the unit
 abbrev pub IsStep : Kind → Step → Type 0
 IsStep kind Pathless = Unit {0}
 IsStep kind (Of u change) = Contains (units kind) u × MayBeMade kind u change
@@ -83,7 +84,7 @@ abbrev pub with_outcome : AttributeUnit → List Row → Result (List Row) StepF
 with_outcome u rs (Ok vs) = Ok (put_values u vs rs)
 with_outcome u rs (Err e) = Err e
 
--- the rows after a step, or its fault
+-- the rows after a step, or the fault of the step
 abbrev pub stepped : Kind → Step → List Row → Result (List Row) StepFault
 stepped kind Pathless rs = Err fault.NoTarget
 stepped kind (Of u change) rs = with_outcome u rs (after kind u change (values u rs))
@@ -96,18 +97,18 @@ all_stepped kind (s ∷ ss) (Ok rs) = all_stepped kind ss (stepped kind s rs)
 
 -- ---- whether the patch changes the resource
 
--- whether a change writes to its unit, as every change except Keep does
+-- whether a change counts as writing to its unit; every change does, except Keep
 abbrev pub writes : StepChange → Bool
 writes Keep = false
 writes _ = true
 
--- whether a step writes to a writeOnly unit, whose values aren't kept (RFC 7643 section 2.2)
+-- whether a step writes to a writeOnly unit, whose values aren't stored (RFC 7643 section 2.2)
 abbrev pub is_unseen_writing : Kind → Step → Bool
 is_unseen_writing kind Pathless = false
 is_unseen_writing kind (Of u change) = is_secret kind u && writes change
 
--- whether one of the patch's units has other values afterwards, or one of its steps writes to a writeOnly
--- unit
+-- whether the rows before and the rows afterwards have different values of a unit that the patch names, or a
+-- step of the patch writes to a writeOnly unit
 abbrev pub changes : Patch → List Row → List Row → Bool
 changes p before rs =
     list_any (is_unseen_writing p.kind) p.steps || list_any (λ u. not (are_same_values (values u before) (values u rs))) (touched p)
@@ -117,11 +118,12 @@ changes p before rs =
 abbrev pub finished : Patch → ℕ → Content → List Row → Content
 finished p moment c rs = if changes p (rows c) rs then content c.kind c.id (modified_at moment rs) else c
 
--- the resource after the patch and whether it changed, or the fault of a step
+-- the resource after the patch and whether the patch changed it, or the fault of a step
 abbrev pub if_stepped : Patch → ℕ → Content → Result (List Row) StepFault → Result (Content × Bool) StepFault
 if_stepped p moment c (Ok rs) = Ok (finished p moment c rs, changes p (rows c) rs)
 if_stepped p moment c (Err e) = Err e
 
--- the resource after all steps of the patch and whether it changed, or the fault of the first refused step
+-- the resource after all steps of the patch and whether the patch changed it, or the fault of the first
+-- refused step
 unfoldable pub applied : Patch → ℕ → Content → Result (Content × Bool) StepFault
 applied p moment c = if_stepped p moment c (all_stepped p.kind p.steps (Ok (rows c)))

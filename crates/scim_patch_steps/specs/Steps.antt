@@ -26,7 +26,8 @@ use Rattle.scim_patch_steps.specs.Table.{row}
 
 -- ---- the changes that no client may make
 
--- whether existing values of this mutability can't be changed: immutable or readOnly (RFC 7643 section 2.2)
+-- whether the mutability is immutable or readOnly, so that existing values can't be changed (RFC 7643 section
+-- 2.2)
 abbrev pub is_final : Mutability → Bool
 is_final m = sameb the_mutability m Immutable || sameb the_mutability m ReadOnly
 
@@ -38,8 +39,8 @@ is_unchangeable kind l = is_final (characteristics_of kind l).mutability
 abbrev pub is_required : Kind → AttributeUnit → Bool
 is_required kind u = (characteristics_at kind u.attribute u.sub_attribute).required
 
--- whether a change is barred: it would clear a required unit, or change an immutable or readOnly
--- sub-attribute or an existing member
+-- whether a change would clear a required unit, change an immutable or readOnly sub-attribute, or add
+-- something to an existing member of a group
 abbrev pub is_barred : Kind → AttributeUnit → StepChange → List Row → Bool
 is_barred kind u Clear values = is_required kind u
 is_barred kind u (KeepMatches t) values = is_members u.attribute && is_any_match t values
@@ -52,7 +53,7 @@ is_barred kind u (SetEverywhere field) values = is_unchangeable kind field.leaf
 is_barred kind u (ClearEverywhere b) values = is_unchangeable kind (leaf_at u.attribute b)
 is_barred kind u _ values = false
 
--- whether no client may make a change: its unit is readOnly, or it is barred
+-- whether no client may make a change: the unit is readOnly, or the change is barred (`is_barred`)
 abbrev pub is_forbidden : Kind → AttributeUnit → StepChange → List Row → Bool
 is_forbidden kind u change values = is_fixed kind u || is_barred kind u change values
 
@@ -68,8 +69,8 @@ gives_two_primary a (Append given) = are_two_primary a given
 gives_two_primary a (Replace given) = are_two_primary a given
 gives_two_primary a _ = false
 
--- whether the values after a step are refused: two are chosen as primary, a member has no `value`, or there
--- are more than 10,000 values
+-- whether the values after a step are refused: more than one value is chosen as primary, a member has no
+-- `value`, or there are more than 10,000 values
 abbrev pub are_refused : Attribute → List Position → Bool
 are_refused a ps =
     nat_lt 1 (count_by (λ (p : Position). p.chosen) ps) || list_any (λ (p : Position). is_nameless a p.value) ps || nat_lt MOST_VALUES (length ps)
@@ -80,7 +81,8 @@ are_refused a ps =
 abbrev pub beside_chosen : Position → Row
 beside_chosen p = if p.chosen then p.value else demoted p.value
 
--- the values of the positions, with no other primary value if the step chose one
+-- the values of the positions; if the step chose one value as primary, `primary` is set to false in the other
+-- values
 abbrev pub primary_settled : List Position → List Row
 primary_settled ps =
     if count_by (λ (p : Position). p.chosen) ps == 1 then map beside_chosen ps else map (λ (p : Position). p.value) ps
@@ -89,17 +91,19 @@ primary_settled ps =
 abbrev pub checked : Attribute → List Position → Result (List Row) StepFault
 checked a ps = if are_refused a ps then Err fault.Value else Ok (primary_settled ps)
 
--- the values with fields after a step, with no other primary value if the step chose one, or the fault
--- `Value` if they are refused; the fault `NoTarget` if the path has no target
+-- the values after a step, without values that have no fields; if the step chose one value as primary,
+-- `primary` is set to false in the other values; the fault `NoTarget` if the path has no target, or the fault
+-- `Value` if the values are refused
 abbrev pub settled : Attribute → Option (List Position) → Result (List Row) StepFault
 settled a None = Err fault.NoTarget
 settled a (Some ps) = checked a (filter (λ (p : Position). has_fields p.value) ps)
 
--- the values after a permitted change, or its fault
+-- the values after a permitted change; the error `Value` if it gives two primary values, else the result of
+-- `settled`
 abbrev pub judged : Attribute → StepChange → Option (List Position) → Result (List Row) StepFault
 judged a change found = if gives_two_primary a change then Err fault.Value else settled a found
 
--- the values of the unit after the step, or its fault
+-- the values of the unit after the change, or the fault for which the change is refused
 abbrev pub after : Kind → AttributeUnit → StepChange → List Row → Result (List Row) StepFault
 after kind u change values = if is_forbidden kind u change values then Err fault.Mutability else judged u.attribute change (row u change values)
 

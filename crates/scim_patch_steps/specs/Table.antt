@@ -12,7 +12,7 @@ use Rattle.scim_patch_values.specs.Fields.{row_without}
 use Rattle.scim_patch_values.specs.Matches.{kept, given_primary, marked, value_of, is_listed, is_any_match, set_at_match, replaced_at_match, cleared_at_match, added_at_matches, set_everywhere}
 use Rattle.scim_patch_steps.specs.Changes.{StepChange, Keep, KeepMatches, KeepSubAttribute, Append, Replace, Clear, RemoveListed, AddToMatches, ReplaceMatches, RemoveMatches, AddAtMatches, SetAtMatches, ClearAtMatches, SetEverywhere, ClearEverywhere}
 
--- the positions if at least one value matches the filter, else None
+-- the positions; None if none of the values matches the filter
 abbrev pub at_matches : Tree → List Row → List Position → Option (List Position)
 at_matches t values positions = if is_any_match t values then Some positions else None
 

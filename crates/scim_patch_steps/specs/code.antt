@@ -1,4 +1,5 @@
--- Specifications of code: how patches and results are represented, and what is kept to detect changes.
+-- Specifications of code: how patches and results are represented, and which data is recorded to detect
+-- changes.
 pub mod Before
 pub mod Inside
 pub mod Lengths

@@ -31,7 +31,7 @@ struct Apart {
     behind: Vec<Row>,
 }
 
-/// Splits the rows at the unit.
+/// Splits the rows into those before the unit, those of the unit, and those after it.
 fn parted(alloc: Global, rows: Vec<Row>, unit: Unit) -> Result<Apart, NoMemory>
     ensures before { IfOk result (λ a. a.before.items
         ≡ filter (λ r. is_lt (unit_cmp r.unit unit)) rows.items) }
@@ -56,9 +56,10 @@ fn parted(alloc: Global, rows: Vec<Row>, unit: Unit) -> Result<Apart, NoMemory>
     })
 }
 
-/// Returns the rows of the resource after a change of its unit.
+/// Applies a change of a unit to the rows of a resource. Returns the rows after the change.
 ///
-/// Fails with `Mutability`, `NoTarget` or `Value`, as [`values_after`] does.
+/// Fails with `Mutability` if no client may make the change, with `NoTarget` if its path has no target, and
+/// with `Value` if the values after it would be invalid; see [`values_after`].
 fn changed_rows(
     alloc: Global,
     kind: Kind,
@@ -81,9 +82,10 @@ fn changed_rows(
     Ok(before)
 }
 
-/// Returns the resource after one step.
+/// Applies one step to the resource.
 ///
-/// Fails with `NoTarget` if the step has no path, and otherwise as [`values_after`] does.
+/// Fails with `NoTarget` if the step has no path or its path has no target, with `Mutability` if no client
+/// may make the change, and with `Value` if the values after it would be invalid; see [`values_after`].
 fn stepped(alloc: Global, resource: Resource, step: &Step) -> Result<Resource, Failed<StepFault>>
     requires { spec.IsStep resource.kind (step_of step.now) }
     ensures rows { UnlessMemory (λ r. rows_left r
@@ -100,7 +102,7 @@ fn stepped(alloc: Global, resource: Resource, step: &Step) -> Result<Resource, F
     Ok(Resource::of_whole(Part::of_rows(kind, id, rows)))
 }
 
-/// Returns the resource after the steps, applied one after another.
+/// Applies the steps to the resource, one after another.
 ///
 /// Fails with the fault of the first step that is refused.
 fn all_stepped(
@@ -123,15 +125,16 @@ fn all_stepped(
 }
 
 /// Applies the steps of a patch to the resource, one after another, at `moment` (RFC 7644 section 3.5.2).
-/// If the resource has the same values afterwards, and no step writes a writeOnly unit, it is returned
+/// If the values of the resource stay equal and no step writes to a writeOnly unit, the resource is returned
 /// unchanged, including `meta.lastModified`; otherwise `meta.lastModified` becomes `moment`.
 ///
-/// The patch must be of the resource's kind. Fails with the fault of the first step that is refused:
-/// `Mutability`, `NoTarget` or `Value`, as [`values_after`] does, or `NoTarget` for a remove without a path.
-/// On an error the resource is dropped.
+/// The patch must be for the resource's kind. Fails with the fault of the first step that is refused:
+/// `NoTarget` for a remove without a path or a path without a target, `Mutability` for a change that no
+/// client may make, or `Value` for invalid values after the step; see [`values_after`]. On an error the
+/// resource is dropped.
 ///
-/// Values are moved. The values of the patch's units are copied as well, unless the patch is a single step
-/// that only removes values, or only appends values without a primary one.
+/// Values are moved. The values of the units that the patch names are also copied, unless the patch is a
+/// single step that only removes values, or only appends values none of which is primary.
 pub fn apply(
     alloc: Global,
     resource: Resource,

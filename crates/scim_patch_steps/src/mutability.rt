@@ -15,7 +15,7 @@ use scim_schema::{Attribute, Kind, Leaf, Mutability, Unit, characteristics_of, m
 use scim_text::NoMemory;
 use std::alloc::Global;
 
-/// Whether the leaf can't be changed in an existing value: it is immutable or readOnly.
+/// Whether the leaf is immutable or readOnly, so that it can't be changed in an existing value.
 fn is_unchangeable(kind: Kind, leaf: Leaf) -> bool
     ensures { result ≡ spec.is_unchangeable kind leaf }
 {
@@ -23,7 +23,7 @@ fn is_unchangeable(kind: Kind, leaf: Leaf) -> bool
     mutability == Mutability::Immutable || mutability == Mutability::ReadOnly
 }
 
-/// Whether the kind requires the unit.
+/// Whether the unit is required on resources of the kind.
 fn is_required(kind: Kind, unit: Unit) -> bool
     ensures { result ≡ spec.is_required kind unit }
 {
@@ -34,8 +34,8 @@ fn is_required(kind: Kind, unit: Unit) -> bool
     characteristics_of(kind, leaf).required
 }
 
-/// Whether the filter matches an existing member, which is immutable as a whole (RFC 7643 section 4.2).
-/// Always false for attributes other than `members`.
+/// Whether the unit is `members` and the filter matches one of the existing members, which are immutable (RFC
+/// 7643 section 4.2).
 fn changes_member(
     alloc: Global,
     unit: Unit,
@@ -51,9 +51,8 @@ fn changes_member(
     is_any_match(alloc, filter, values)
 }
 
-/// Whether the change is barred.
-/// A change is barred if it would clear a required unit, or change an immutable or readOnly sub-attribute or
-/// an existing member.
+/// Whether the change would clear a required unit, change an immutable or readOnly sub-attribute, or add
+/// something to an existing member of a group.
 fn is_barred(
     alloc: Global,
     kind: Kind,
@@ -86,7 +85,8 @@ fn is_barred(
     }
 }
 
-/// Whether no client may make the change: the unit is readOnly, or the change is barred.
+/// Whether no client may make the change: the unit is readOnly, or the change would clear a required unit,
+/// change an immutable or readOnly sub-attribute, or add something to an existing member of a group.
 pub(crate) fn is_forbidden(
     alloc: Global,
     kind: Kind,

@@ -18,7 +18,7 @@ pub enum Step {
 
 /// The steps of a patch in their order, for resources of one kind.
 /// The invariant of a patch is that each step is valid for the kind: the kind has the step's unit, and a
-/// client may give the step's values for it.
+/// client may give the step's values for that unit.
 #[derive(Drop)]
 pub struct Patch {
     kind: Kind,

@@ -1,4 +1,4 @@
-//! Checks the values after a step, and settles which one is primary.
+//! Checks the values after a step, and sets `primary` to false in all values except the chosen one.
 ghost use Rattle.std.specs.Prelude.{◌≡◌, Some, IfOk, map, filter, count_by};
 ghost use Rattle.std.specs.List.{list_any};
 ghost use Rattle.scim_text.specs.Failures.{UnlessMemory};
@@ -15,7 +15,7 @@ use scim_schema::{Attribute, MOST_VALUES};
 use scim_text::{Failed, NoMemory, push};
 use std::alloc::Global;
 
-/// Whether the value has a field.
+/// Whether the value has at least one field.
 fn has_fields(value: &Row) -> bool
     ensures { result ≡ has_fields value.now }
 {
@@ -25,7 +25,7 @@ fn has_fields(value: &Row) -> bool
     }
 }
 
-/// Removes the positions whose value has no field.
+/// Removes the positions whose value has no fields.
 fn close_up(alloc: Global, positions: Vec<Position>) -> Result<Vec<Position>, NoMemory>
     ensures { IfOk result (λ v. v.items
         ≡ filter (λ (p : Position). has_fields p.value) positions.items) }
@@ -46,7 +46,7 @@ fn count_chosen(positions: &[Position]) -> usize
     positions.iter().filter(|position| position.chosen).count()
 }
 
-/// Whether any of the values is a member without `value`.
+/// Whether the attribute is `members` and one of the values has no sub-attribute `value`.
 fn any_nameless(attribute: Attribute, positions: &[Position]) -> bool
     ensures { result ≡ list_any (λ (p : Position). lists.is_nameless attribute p.value)
         positions.now }
@@ -56,8 +56,8 @@ fn any_nameless(attribute: Attribute, positions: &[Position]) -> bool
         .any(|position| is_nameless(attribute, &position.value))
 }
 
-/// Whether the values are refused.
-/// They are refused if two are chosen as primary, a member has no `value`, or there are over 10,000 values.
+/// Whether the values are refused: more than one value is chosen as primary, a member has no `value`, or
+/// there are over 10,000 values.
 fn are_refused(attribute: Attribute, positions: &[Position]) -> bool
     ensures { result ≡ spec.are_refused attribute positions.now }
 {
@@ -66,7 +66,8 @@ fn are_refused(attribute: Attribute, positions: &[Position]) -> bool
         || positions.len() > MOST_VALUES
 }
 
-/// Returns the values, with `primary` set to false in each value that the step didn't choose.
+/// Returns the value of each position, with `primary` set to false in each value that isn't chosen as
+/// primary.
 fn demote_others(alloc: Global, positions: Vec<Position>) -> Result<Vec<Row>, NoMemory>
     ensures { IfOk result (λ v. v.items ≡ map spec.beside_chosen positions.items) }
 {
@@ -83,7 +84,7 @@ fn demote_others(alloc: Global, positions: Vec<Position>) -> Result<Vec<Row>, No
     Ok(values)
 }
 
-/// Returns the values of the positions.
+/// Returns the value of each position, in order.
 fn values_of(alloc: Global, positions: Vec<Position>) -> Result<Vec<Row>, NoMemory>
     ensures { IfOk result (λ v. v.items ≡ map (λ (p : Position). p.value) positions.items) }
 {
@@ -94,10 +95,11 @@ fn values_of(alloc: Global, positions: Vec<Position>) -> Result<Vec<Row>, NoMemo
     Ok(values)
 }
 
-/// Checks the values after a step, and returns the values that have a field. If the step chose a primary
-/// value, no other value is primary.
+/// Drops the values without fields after a step, checks the other values, and returns them. If the step chose
+/// a primary value, `primary` is set to false in all other values.
 ///
-/// Fails with `Value` if two are chosen as primary, a member has no `value`, or there are over 10,000 values.
+/// Fails with `Value` if more than one value is chosen as primary, a member has no `value`, or there are over
+/// 10,000 values.
 pub(crate) fn settle(
     alloc: Global,
     attribute: Attribute,

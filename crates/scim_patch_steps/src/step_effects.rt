@@ -21,8 +21,8 @@ use scim_value::copy_rows;
 use std::alloc::Global;
 use std::slice;
 
-/// Returns the values of a unit after a change, each as a [`Position`]; `None` if the path of the change has
-/// no target.
+/// Applies a change to the values of a unit. Returns each value after the change as a [`Position`]; `None` if
+/// the path of the change has no target.
 pub(crate) fn row(
     alloc: Global,
     unit: Unit,
@@ -77,7 +77,7 @@ pub(crate) fn row(
 }
 
 /// Appends the given values to the existing values, without duplicates.
-/// A value that is the same as a given primary value is chosen.
+/// A value that is the same as a given primary value is chosen as primary.
 fn append(
     alloc: Global,
     unit: Unit,
@@ -94,7 +94,8 @@ fn append(
     Ok(Some(mark(alloc, unit.attribute, primary.as_slice(), all)?))
 }
 
-/// Replaces each match by a value with the given fields, and drops duplicates; `None` if there is no match.
+/// Replaces each value that matches the filter by a value with the given fields, and drops duplicates. `None`
+/// if no value matches.
 fn replace_at_matches(
     alloc: Global,
     unit: Unit,
@@ -115,7 +116,7 @@ fn replace_at_matches(
     Ok(Some(mark(alloc, unit.attribute, primary.as_slice(), all)?))
 }
 
-/// Sets the given fields in each match; `None` if there is no match.
+/// Sets the given fields in each value that matches the filter. `None` if no value matches.
 fn replace_field_at_matches(
     alloc: Global,
     filter: &Filter,

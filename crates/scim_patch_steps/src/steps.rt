@@ -1,4 +1,4 @@
-//! Computes the values of a unit after a step, or why the step is refused.
+//! Computes the values of a unit after a step, or the fault for which the step is refused.
 ghost use Rattle.std.specs.Prelude.{◌≡◌, IfOk};
 ghost use Rattle.scim_text.specs.Failures.{UnlessMemory};
 ghost use Rattle.scim_patch_steps.specs.Changes.{change_of};
@@ -16,7 +16,7 @@ use scim_text::{Failed, NoMemory};
 use std::alloc::Global;
 use thiserror::Error;
 
-/// Why a step is refused (RFC 7644 section 3.12).
+/// The reason why a step is refused (RFC 7644 section 3.12).
 #[derive(Clone, Copy, Debug, PartialEq, Eq, Error)]
 pub enum StepFault {
     /// The step would change a readOnly or immutable value, or clear a required attribute (mutability).
@@ -46,13 +46,13 @@ fn gives_two_primary(
     }
 }
 
-/// Returns the values of a unit after a step, from the values before it (RFC 7644 section 3.5.2).
+/// Applies `change` to the `values` of a unit. Returns the values after the change (RFC 7644 section 3.5.2).
 ///
 /// Fails with `Mutability` if the unit is readOnly, if a required unit would be cleared, if the path ends in
 /// an immutable or readOnly sub-attribute, or if something would be added to an existing member. Otherwise
 /// fails with `NoTarget` if the path has no target. Otherwise fails with `Value` if the step marks two values
-/// as primary, if a member has no `value`, or if there are over 10,000 values. On an error the values are
-/// dropped.
+/// as primary, or if afterwards a member has no `value` or there are over 10,000 values. On an error the
+/// values are dropped.
 ///
 /// If the step marks one value as primary, no other value is primary afterwards. The time is nearly linear in
 /// the number of existing and given values.

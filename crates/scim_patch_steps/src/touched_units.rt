@@ -1,4 +1,4 @@
-//! The units that a patch names, and whether it changes their values.
+//! The units that a patch names, and whether the patch changes their values.
 ghost use Rattle.std.specs.Prelude.{◌≡◌, AllPairs, IfOk, map, filter};
 ghost use Rattle.std.specs.List.{flat_map, list_any};
 ghost use Rattle.scim_cell.specs.Rows.{Precedes, is_primary, rows};
@@ -17,17 +17,18 @@ use scim_text::{NoMemory, push};
 use scim_value::{Part, values_among};
 use std::alloc::Global;
 
-/// What is kept of a resource before a patch, to detect afterwards whether its values changed.
+/// The data that is recorded before a patch, to detect afterwards whether the values of the resource changed.
 #[derive(Drop)]
 pub(crate) enum Before {
-    /// The number of values of the patch's only unit, if it suffices to detect whether the values changed.
+    /// The only unit of the patch and the number of its values. Used if the number of values afterwards shows
+    /// whether the values changed.
     Number(Unit, usize),
     /// Copies of the rows of the units that the patch names.
     Rows(Vec<Row>),
 }
 
 impl Patch {
-    /// Returns the units of the steps, in the order of the steps. Pathless steps have none.
+    /// Returns the unit of each step, in the order of the steps. A step without a path has no unit.
     pub fn touched(&self, alloc: Global) -> Result<Vec<Unit>, NoMemory>
         ensures { IfOk result (λ v. v.items ≡ spec.touched (patch_of self.now)) }
     {
@@ -35,7 +36,7 @@ impl Patch {
     }
 }
 
-/// Returns the units of the steps, in their order.
+/// Returns the unit of each step, in the order of the steps. A step without a path has no unit.
 fn units_of(alloc: Global, steps: &[Step]) -> Result<Vec<Unit>, NoMemory>
     ensures { IfOk result (λ v. v.items ≡ flat_map spec.units_in (map step_of steps.now)) }
 {
@@ -55,7 +56,7 @@ fn is_one_of(units: &[Unit], unit: Unit) -> bool
     units.iter().any(|other| unit == *other)
 }
 
-/// Copies the rows of these units.
+/// Copies the rows that belong to one of `units`.
 fn rows_of(alloc: Global, units: &[Unit], rows: &[Row]) -> Result<Vec<Row>, NoMemory>
     ensures { IfOk result (λ v. v.items ≡ rows_about units.now rows.now) }
 {
@@ -68,7 +69,7 @@ fn rows_of(alloc: Global, units: &[Unit], rows: &[Row]) -> Result<Vec<Row>, NoMe
     Ok(copies)
 }
 
-/// Copies the rows of the part for the units that the patch names.
+/// Copies the rows of `part` that belong to units that the patch names.
 fn touched_rows(alloc: Global, patch: &Patch, part: &Part) -> Result<Vec<Row>, NoMemory>
     ensures rows { IfOk result (λ v. v.items
         ≡ rows_about (spec.touched (patch_of patch.now)) (rows part.now)) }
@@ -78,9 +79,9 @@ fn touched_rows(alloc: Global, patch: &Patch, part: &Part) -> Result<Vec<Row>, N
     rows_of(alloc, units.as_slice(), part.rows())
 }
 
-/// Returns what to keep of a part before the patch, to detect changes.
-/// It is the number of values if the patch is a single step that only removes values, or only appends values
-/// without a primary one; otherwise the rows of the patch's units.
+/// Returns the data of a part to record before the patch, to detect changes.
+/// This is the number of values if the patch is a single step that only removes values, or only appends
+/// values none of which is primary; otherwise copies of the rows of the units that the patch names.
 pub(crate) fn before_of(alloc: Global, patch: &Patch, part: &Part) -> Result<Before, NoMemory>
     ensures { IfOk result (IsBefore (patch_of patch.now) (rows part.now)) }
 {
@@ -90,7 +91,7 @@ pub(crate) fn before_of(alloc: Global, patch: &Patch, part: &Part) -> Result<Bef
     }
 }
 
-/// Whether the change writes to its unit: every change does, except [`StepChange::Keep`].
+/// Whether the change counts as writing to its unit. Every change does, except [`StepChange::Keep`].
 fn writes(change: &StepChange) -> bool
     ensures { result ≡ spec.writes (change_of change.now) }
 {
@@ -100,7 +101,7 @@ fn writes(change: &StepChange) -> bool
     }
 }
 
-/// Whether the step writes to a writeOnly unit, whose values aren't kept.
+/// Whether the step writes to a writeOnly unit. The values of writeOnly units aren't stored.
 fn is_unseen_writing(kind: Kind, step: &Step) -> bool
     ensures { result ≡ spec.is_unseen_writing kind (step_of step.now) }
 {
@@ -124,7 +125,7 @@ fn is_any_unseen_writing(kind: Kind, steps: &[Step]) -> bool
     false
 }
 
-/// Whether `before` and the part have different values of any unit of the steps.
+/// Whether `before` and `part` have different values of at least one of the units that the steps name.
 fn is_any_other(steps: &[Step], before: &[Row], part: &Part) -> bool
     requires { AllPairs (λ r s. Precedes r.unit s.unit) before.now }
     ensures { result ≡ list_any (is_other before.now (rows part.now))
@@ -147,8 +148,9 @@ fn has_primary(values: &[Row]) -> bool
     values.iter().any(|value| value.is_primary())
 }
 
-/// Whether the number of values afterwards suffices to detect whether the change had an effect.
-/// This is so if the change only removes values, or only appends values without a primary one.
+/// Whether the number of values after the change shows whether the change had an effect.
+/// This is so if the change does nothing, only removes values, or only appends values none of which is
+/// primary.
 fn is_told_by_length(change: &StepChange) -> bool
     ensures { result ≡ lengths.is_told_by_length (change_of change.now) }
 {
@@ -164,8 +166,8 @@ fn is_told_by_length(change: &StepChange) -> bool
     }
 }
 
-/// Returns the unit of the only step, if the number of its values suffices to detect whether they changed.
-/// `None` otherwise, or if there isn't exactly one step.
+/// Returns the unit of the only step. `None` if there isn't exactly one step, the step has no path, or the
+/// number of values after the step doesn't show whether the values changed.
 fn unit_told_by_length(steps: &[Step]) -> Option<Unit>
     ensures { result ≡ lengths.unit_told_among (map step_of steps.now) }
 {
@@ -175,7 +177,7 @@ fn unit_told_by_length(steps: &[Step]) -> Option<Unit>
     }
 }
 
-/// Whether the patch changed something: `before` was kept before the patch, and `part` is the result of
+/// Whether the patch changed something. `before` was recorded before the patch, and `part` is the result of
 /// the patch.
 pub(crate) fn is_changed(before: &Before, patch: &Patch, part: &Part) -> bool
     requires { IsInOrder before.now }

@@ -14,21 +14,22 @@ use Rattle.scim_cell.specs.Rows.{Row, is_primary}
 abbrev pub field_cmp : Field → Field → Ordering
 field_cmp f g = place_cmp (place_at f.leaf 0) (place_at g.leaf 0)
 
--- the fields with a field inserted at its place, where it replaces fields that have the same place
+-- the fields of the list, with the given field inserted at its place; it replaces fields that have the same
+-- place
 abbrev pub put_field : Field → List Field → List Field
 put_field f fs = filter (λ (g : Field). is_lt (field_cmp g f)) fs ++ (f ∷ filter (λ (g : Field). is_gt (field_cmp g f)) fs)
 
--- the fields with the given fields inserted at their places, where they replace fields that have the same
--- places
+-- the fields of the second list, with the given fields inserted at their places; they replace fields that
+-- have the same places
 abbrev pub over : List Field → List Field → List Field
 over [] fs = fs
 over (g ∷ given) fs = over given (put_field g fs)
 
--- the fields without the fields of a leaf
+-- the fields that don't belong to the leaf
 abbrev pub without : Leaf → List Field → List Field
 without l fs = filter (λ (f : Field). not (is_same_leaf f.leaf l)) fs
 
--- the value with the given fields set in it; they replace its fields that have the same places
+-- the value with the given fields set in it; they replace fields of the value that have the same places
 abbrev pub row_over : List Field → Row → Row
 row_over given r = record { unit = r.unit; fields = over given r.fields }
 

@@ -27,11 +27,11 @@ kept value = record { value = value; chosen = false }
 abbrev pub given_primary : Attribute → List Row → List Row
 given_primary a given = with_values a [] (filter is_primary given)
 
--- the `Position` of a value, chosen if it is the same as one of the values `primary`
+-- the `Position` of a value; it is chosen as primary if the value is the same as one of the values `primary`
 abbrev pub marked : Attribute → List Row → Row → Position
 marked a primary value = record { value = value; chosen = list_any (λ g. is_same_value a g value) primary }
 
--- the `Position` of a value that the step made, chosen if it is marked as primary
+-- the `Position` of a value that the step made; it is chosen as primary if its `primary` is true
 abbrev pub made : Row → Position
 made value = record { value = value; chosen = is_primary value }
 
@@ -44,7 +44,7 @@ abbrev pub is_text_of : Option Atom → List (List ℕ) → Bool
 is_text_of (Some (Text t)) texts = list_any (bytes_eq t) texts
 is_text_of _ texts = false
 
--- whether the `value` of a value is one of these texts, compared case-sensitively
+-- whether the sub-attribute `value` of a value is one of these texts, compared case-sensitively
 abbrev pub is_listed : List (List ℕ) → Row → Bool
 is_listed texts value = is_text_of (atom_in (leaf_at value.unit.attribute Value) value.fields) texts
 
@@ -52,11 +52,12 @@ is_listed texts value = is_text_of (atom_in (leaf_at value.unit.attribute Value)
 abbrev pub is_any_match : Tree → List Row → Bool
 is_any_match t values = list_any (truth_in_value t) values
 
--- the `Position` of a value with the given fields set in it, chosen if they mark it as primary
+-- the `Position` of the value with the given fields set in it; it is chosen as primary if the given fields
+-- set `primary` to true
 abbrev pub set_over : List Field → Row → Position
 set_over given value = record { value = row_over given value; chosen = is_primary (value_of value.unit given) }
 
--- the `Position` of a value, with the given fields set in it if it matches the filter
+-- the `Position` of the value; if the value matches the filter, the given fields are set in it
 abbrev pub set_at_match : Tree → List Field → Row → Position
 set_at_match t given value = if truth_in_value t value then set_over given value else kept value
 
@@ -64,22 +65,23 @@ set_at_match t given value = if truth_in_value t value then set_over given value
 abbrev pub replaced_at_match : Tree → Row → Row → Row
 replaced_at_match t given value = if truth_in_value t value then given else value
 
--- the value, without the sub-attribute if it matches the filter
+-- the value; if it matches the filter, its sub-attribute is removed
 abbrev pub cleared_at_match : Tree → SubAttribute → Row → Row
 cleared_at_match t b value = if truth_in_value t value then row_without (leaf_at value.unit.attribute b) value else value
 
--- the values, unchanged, followed by a new value with these fields
+-- the unchanged values, followed by a new value with these fields
 abbrev pub with_made : AttributeUnit → List Row → List Field → List Position
 with_made u values fs = map kept values ++ made (value_of u fs) ∷ []
 
--- the values with the given fields set in each match; if there is no match, the values and a new value with
--- the fields that the filter describes, overridden by the given fields; None if it describes no value
+-- if a value matches, the values with the given fields set in each match; otherwise the values followed by a
+-- new value with the fields that the filter describes, overridden by the given fields; None if no value
+-- matches and the filter describes no value
 abbrev pub added_at_matches : AttributeUnit → Tree → List Field → List Row → Option (List Position)
 added_at_matches u t given values =
     if is_any_match t values then Some (map (set_at_match t given) values)
     else option_map (λ fs. with_made u values (over given (over fs []))) (described u.attribute t)
 
--- the values with the given fields set in each of them, or one new value with these fields if there are no
+-- the values with the given fields set in each value, or one new value with the given fields if there are no
 -- values
 abbrev pub set_everywhere : AttributeUnit → List Field → List Row → List Position
 set_everywhere u given [] = made (value_of u given) ∷ []

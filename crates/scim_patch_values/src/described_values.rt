@@ -48,8 +48,9 @@ fn atom_for(
     }
 }
 
-/// Returns the field with this literal for a sub-attribute of the attribute.
-/// `None` if the attribute doesn't have the sub-attribute, or the literal isn't a valid value of its type.
+/// Returns a field that has the literal as the value of the sub-attribute.
+/// `None` if the attribute doesn't have the sub-attribute, or the literal isn't a valid value of the
+/// sub-attribute's type.
 fn field_for(
     alloc: Global,
     attribute: Attribute,
@@ -71,8 +72,8 @@ fn field_for(
     }
 }
 
-/// Appends the field that an equality, such as `type eq "work"`, describes. Returns false if it describes
-/// none.
+/// Appends the field that an equality, such as `type eq "work"`, describes. Returns false if the equality
+/// isn't on a sub-attribute of the attribute, or the literal isn't a valid value for it.
 fn push_equality(
     alloc: Global,
     attribute: Attribute,
@@ -95,8 +96,8 @@ fn push_equality(
     }
 }
 
-/// Appends the fields that a conjunction of equalities describes; returns false for any other filter.
-/// If it returns false, the fields of the first terms may have been appended.
+/// Appends the fields that a conjunction of equalities describes. Returns false if the filter isn't such a
+/// conjunction or one of the equalities describes no field; some fields may then have been appended.
 fn push_equalities(
     alloc: Global,
     attribute: Attribute,
@@ -118,14 +119,14 @@ fn push_equalities(
     }
 }
 
-/// Whether any of the fields is of the leaf.
+/// Whether any of the fields belongs to the leaf.
 fn has_leaf(fields: &[Field], leaf: Leaf) -> bool
     ensures { result ≡ list_any (λ f. is_same_leaf f.leaf leaf) fields.now }
 {
     fields.iter().any(|field| field.leaf == leaf)
 }
 
-/// Whether all fields are of different leaves.
+/// Whether no two fields belong to the same leaf.
 fn is_each_once(fields: &[Field]) -> bool
     ensures { result ≡ spec.is_each_once fields.now }
 {
@@ -135,8 +136,8 @@ fn is_each_once(fields: &[Field]) -> bool
     }
 }
 
-/// Returns the fields of the value that a value path describes.
-/// `None` unless the filter in brackets is a conjunction of equalities, each on a different sub-attribute.
+/// Returns the fields of the value that a value path describes. `None` if the filter in brackets isn't a
+/// conjunction of equalities, each with a valid value for a different sub-attribute.
 pub(crate) fn described(
     alloc: Global,
     attribute: Attribute,

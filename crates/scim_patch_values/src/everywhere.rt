@@ -22,7 +22,7 @@ pub fn value_of(alloc: Global, unit: Unit, fields: &[Field]) -> Result<Row, NoMe
     Ok(Row::new(unit, copies))
 }
 
-/// Returns the [`Position`] of a value that the step made. The value is chosen if it is marked as primary.
+/// Returns the [`Position`] of a value that the step made. It is chosen as primary if its `primary` is true.
 pub(crate) fn made(value: Row) -> Position
     ensures { result ≡ spec.made value }
 {
@@ -31,7 +31,7 @@ pub(crate) fn made(value: Row) -> Position
 }
 
 /// Sets the given fields in each value, or makes one value with these fields if there are no values.
-/// The values are chosen if the given fields mark them as primary.
+/// Each value is chosen as primary if the given fields set `primary` to true.
 pub fn set_everywhere(
     alloc: Global,
     unit: Unit,
@@ -60,7 +60,8 @@ fn set_each(alloc: Global, given: &[Field], values: Vec<Row>) -> Result<Vec<Posi
     Ok(positions)
 }
 
-/// Sets copies of the given fields in the value. The value is chosen if the given fields mark it as primary.
+/// Sets copies of the given fields in the value. The value is chosen as primary if the given fields set
+/// `primary` to true.
 pub(crate) fn set_over(alloc: Global, given: &[Field], value: Row) -> Result<Position, NoMemory>
     ensures { IfOk result (λ p. p ≡ spec.set_over given.now value) }
 {
@@ -69,7 +70,7 @@ pub(crate) fn set_over(alloc: Global, given: &[Field], value: Row) -> Result<Pos
     Ok(Position { value, chosen })
 }
 
-/// Whether the fields mark a value of the unit as primary.
+/// Whether the fields, as fields of a value of the unit, set `primary` to true.
 fn says_primary(unit: Unit, fields: &[Field]) -> bool
     ensures { result ≡ is_primary (spec.value_of unit fields.now) }
 {

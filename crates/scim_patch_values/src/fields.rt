@@ -11,7 +11,7 @@ use scim_text::{NoMemory, push};
 use std::alloc::Global;
 use std::cmp::Ordering;
 
-/// Returns the place of a field in the order of its value's fields.
+/// Returns the place of a field in the sort order of the fields of one value.
 fn place_of(field: &Field) -> Place
     ensures { result ≡ place_at field.now.leaf 0 }
 {
@@ -22,7 +22,7 @@ fn place_of(field: &Field) -> Place
     }
 }
 
-/// The fields of a value before and after a given place.
+/// The fields of a value, split into those that sort before a given field and those that sort after it.
 #[derive(Drop)]
 struct Sides {
     before: Vec<Field>,
@@ -30,7 +30,8 @@ struct Sides {
 }
 
 impl Sides {
-    /// Adds `other` to the fields before or after the place of `field`. Drops it if both have the same place.
+    /// Adds `other` to `before` or `behind`, by its order relative to `field`. Drops `other` if both fields
+    /// have the same place.
     fn add(&mut self, other: Field, field: &Field) -> Result<(), NoMemory>
         ensures before { OnOk result (self.new.before.items
             ≡ self.old.before.items
@@ -48,7 +49,7 @@ impl Sides {
     }
 }
 
-/// Splits the fields at the place of `field`, dropping any field at that place.
+/// Splits the fields into those before and those after the place of `field`. Drops any field at that place.
 fn parted(alloc: Global, fields: Vec<Field>, field: &Field) -> Result<Sides, NoMemory>
     ensures before { IfOk result (λ sides. sides.before.items
         ≡ filter (λ other. is_lt (spec.field_cmp other field.now)) fields.items) }
@@ -65,7 +66,7 @@ fn parted(alloc: Global, fields: Vec<Field>, field: &Field) -> Result<Sides, NoM
     Ok(sides)
 }
 
-/// Inserts a field at its place among the fields. It replaces a field that has the same place.
+/// Inserts `field` at its place among `fields`, and removes any other field that has the same place.
 fn put_field(alloc: Global, fields: Vec<Field>, field: Field) -> Result<Vec<Field>, NoMemory>
     ensures { IfOk result (λ v. v.items ≡ spec.put_field field fields.items) }
 {
@@ -78,7 +79,8 @@ fn put_field(alloc: Global, fields: Vec<Field>, field: Field) -> Result<Vec<Fiel
     Ok(all)
 }
 
-/// Inserts copies of the given fields at their places. They replace fields that have the same places.
+/// Inserts copies of the `given` fields into `fields` at their places. They replace fields that have the same
+/// places.
 pub(crate) fn over(
     alloc: Global,
     given: &[Field],
@@ -93,7 +95,8 @@ pub(crate) fn over(
     Ok(all)
 }
 
-/// Sets copies of the given fields in the value. They replace its fields that have the same places.
+/// Sets copies of the `given` fields in the value. They replace fields of the value that have the same
+/// places.
 pub(crate) fn row_over(alloc: Global, given: &[Field], row: Row) -> Result<Row, NoMemory>
     ensures { IfOk result (λ r. r ≡ spec.row_over given.now row) }
 {
@@ -102,7 +105,7 @@ pub(crate) fn row_over(alloc: Global, given: &[Field], row: Row) -> Result<Row, 
     Ok(Row::new(unit, fields))
 }
 
-/// Whether the field is of the leaf.
+/// Whether the field belongs to this leaf.
 fn is_of(field: &Field, leaf: Leaf) -> bool
     ensures { result ≡ is_same_leaf field.now.leaf leaf }
 {

@@ -1,5 +1,5 @@
-//! Applies a PATCH step to the values of its unit (RFC 7644 section 3.5.2): to the values that match a
-//! filter, to the values whose `value` is listed, or to all values.
+//! Applies a step of a PATCH to values of a unit (RFC 7644 section 3.5.2): to the values that match a filter,
+//! to the values whose `value` is in a list, or to all values.
 #![tactic(auto)]
 
 mod described_values;

@@ -20,7 +20,7 @@ fn set_of(alloc: Global, texts: &[Text]) -> Result<BTreeSet<String>, NoMemory>
     Ok(set)
 }
 
-/// Whether the value's `value` is one of the texts in the set.
+/// Whether the sub-attribute `value` of the value is one of the texts in the set.
 fn is_listed(set: &BTreeSet<String>, value: &Row) -> bool
     ensures { (texts : List (List ℕ)) → HoldsTexts set.now texts
         → result ≡ spec.is_listed texts value.now }
@@ -31,8 +31,8 @@ fn is_listed(set: &BTreeSet<String>, value: &Row) -> bool
     }
 }
 
-/// Removes the values whose `value` is one of the texts, compared case-sensitively. The other values
-/// keep their order.
+/// Removes the values whose sub-attribute `value` is one of the texts, compared case-sensitively. The other
+/// values keep their order.
 pub fn remove_listed(alloc: Global, texts: &[Text], values: Vec<Row>) -> Result<Vec<Row>, NoMemory>
     ensures { IfOk result (λ v. v.items
         ≡ filter (λ value. not (spec.is_listed texts.now value)) values.items) }

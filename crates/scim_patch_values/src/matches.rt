@@ -28,8 +28,8 @@ pub fn is_any_match(alloc: Global, matching: &Filter, values: &[Row]) -> Result<
     Ok(false)
 }
 
-/// Sets the given fields in each value that matches the filter. A match is chosen if the given fields mark it
-/// as primary.
+/// Sets the given fields in each value that matches the filter. Each match is chosen as primary if the given
+/// fields set `primary` to true.
 pub fn set_at_matches(
     alloc: Global,
     matching: &Filter,
@@ -118,10 +118,10 @@ pub fn clear_at_matches(
 }
 
 /// Sets the given fields in each value that matches the filter, or appends a new value if none matches.
-/// The new value has the fields that the filter describes, overridden by the given fields. It is chosen if it
-/// is marked as primary; a match is chosen if the given fields mark it as primary.
+/// The new value has the fields that the filter describes, overridden by the given fields, and is chosen as
+/// primary if its `primary` is true. A match is chosen as primary if the given fields set `primary` to true.
 ///
-/// `None` if no value matches and the filter describes no value; the values are then dropped. Only a
+/// Returns `None` and drops the values if no value matches and the filter describes no value. Only a
 /// conjunction of equalities, each on a different sub-attribute, describes a value.
 pub fn add_at_matches(
     alloc: Global,

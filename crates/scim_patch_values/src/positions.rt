@@ -17,7 +17,7 @@ pub struct Position {
     pub chosen: bool,
 }
 
-/// Returns the values unchanged, none of them chosen.
+/// Returns the values unchanged, with none of them chosen as primary.
 pub fn keep(alloc: Global, values: Vec<Row>) -> Result<Vec<Position>, NoMemory>
     ensures { IfOk result (λ v. v.items ≡ map spec.kept values.items) }
 {
@@ -57,7 +57,7 @@ pub fn given_primary(
     with_values(alloc, attribute, Vec::new(alloc), primary)
 }
 
-/// Whether any of the values is the same as `value`.
+/// Whether any of `values` is the same value of the attribute as `value`.
 fn has_same(attribute: Attribute, values: &[Row], value: &Row) -> bool
     ensures { result ≡ list_any (λ other.
         lists.is_same_value attribute other value.now) values.now }
@@ -67,7 +67,7 @@ fn has_same(attribute: Attribute, values: &[Row], value: &Row) -> bool
         .any(|other| is_same_value(attribute, other, value))
 }
 
-/// Returns the values. A value is chosen if it is the same as one of `primary`.
+/// Returns the values unchanged. A value is chosen as primary if it is the same as one of `primary`.
 /// Takes time in proportion to the product of both lengths; `primary` has at most one element in practice,
 /// since a step that gives two different primary values is refused earlier.
 pub fn mark(

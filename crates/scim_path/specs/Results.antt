@@ -1,4 +1,4 @@
--- The results of reading paths, in the form of the specification.
+-- Converts the results of the code that reads paths into the results that the specification defines.
 use Rattle.std.specs.Prelude.{ℕ, List, Option, Some, None, Result, Ok, Err}
 use Rattle.scim_schema.specs.declared.Attribute.{Attribute}
 use Rattle.scim_schema.specs.declared.SubAttribute.{SubAttribute}
@@ -9,7 +9,7 @@ use Rattle.scim_path.specs.declared.faults.PathFault.TheVariants.{Syntax}
 use Rattle.scim_path.specs.declared.paths.Path.{Path}
 use Rattle.scim_path.specs.Paths.{PathTarget, OfValues, path_target, chosen, filtered_target}
 
--- the result of reading a path, without pointers
+-- the specified result of reading a path, from the result of the code
 abbrev pub target_read : Result Path PathFault → Result PathTarget PathFault
 target_read (Ok p) = Ok (path_target p)
 target_read (Err f) = Err f

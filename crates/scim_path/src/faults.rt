@@ -5,7 +5,7 @@ use thiserror::Error;
 #[derive(Clone, Copy, Debug, PartialEq, Eq, Error)]
 pub enum PathFault {
     /// The text isn't a path, has more than 4,096 bytes or more than 32 open brackets, has a comparison that
-    /// doesn't suit its attribute's type, or has a filter on an attribute that isn't multi-valued.
+    /// doesn't suit its attribute's type, or has a filter after anything but a multi-valued attribute.
     #[error("the text is no path")]
     Syntax,
     /// The kind doesn't have the attribute or sub-attribute.

@@ -3,7 +3,7 @@ ghost use Rattle.scim_path.specs.Paths.{TextsNameOneThing};
 
 use scim_filter_grammar::one_path_is_spelled;
 
-/// For a kind, a text names one target or has one fault, never both.
+/// For each kind, a text has only one possible result when it is read as a path: a target or a fault.
 ///
 /// So if [`crate::read_path`] returns a fault, other than for lack of memory, the text names no target and
 /// has no other fault.

@@ -68,9 +68,9 @@ fn chosen(attribute: Attribute, sub_name: Option<&Text>) -> Result<Option<SubAtt
 
 /// The attribute before the brackets, after checking that the filter may select its values.
 ///
-/// Fails with `Unknown` if the kind doesn't have an attribute or sub-attribute that is named. Fails with
-/// `Syntax` if the attribute isn't multi-valued, a sub-attribute is named before the brackets, or a
-/// comparison in the filter doesn't suit its attribute's type.
+/// Fails with `Unknown` if the name before the brackets is unknown. Else fails with `Syntax` if it isn't the
+/// name of a multi-valued attribute, or if a comparison in the filter doesn't suit its attribute's type. Else
+/// fails with `Unknown` if a name in the filter is unknown.
 fn filtered_attribute(meant: Meant, filter: &Filter) -> Result<Attribute, PathFault>
     ensures { (sub : Option (List ℕ))
         → chosen_read (tree_of filter.now) sub result
@@ -103,7 +103,7 @@ fn meant_before(filter: &Filter) -> Option<Meant>
     }
 }
 
-/// The attribute that a value path names, and the sub-attribute named after its brackets, if any.
+/// The attribute before the brackets of a value path, and the sub-attribute after them, if one is named.
 fn parts_of(
     filter: &Filter,
     sub_name: Option<&Text>,
@@ -118,7 +118,8 @@ fn parts_of(
     Ok((attribute, sub_attribute))
 }
 
-/// The target of a value path with an optional name of a sub-attribute after its brackets.
+/// The target of a value path. `sub_name` is the name of the sub-attribute after the brackets, if there is
+/// one.
 fn filtered(filter: Filter, sub_name: Option<&Text>) -> Result<Path, PathFault>
     ensures { target_read result ≡ spec.written_target
         (Filtered (tree_of filter) (option_map (λ t. t.now) sub_name.entry)) }
@@ -133,7 +134,7 @@ fn filtered(filter: Filter, sub_name: Option<&Text>) -> Result<Path, PathFault>
     }
 }
 
-/// The target that a path, as written, names.
+/// Looks up the target that a path names.
 fn written(path: WrittenPath) -> Result<Path, PathFault>
     ensures { target_read result ≡ spec.written_target (written_of path) }
 {
@@ -147,11 +148,12 @@ fn written(path: WrittenPath) -> Result<Path, PathFault>
 /// `attribute[filter]` or `attribute[filter].subAttribute`, each with or without a URN and a colon before it,
 /// or the URN of an extension alone.
 ///
-/// Spaces around it are allowed, and names match in any ASCII case.
+/// Spaces around the text are allowed, and names match in any ASCII case.
 ///
 /// Fails with `Syntax` if the text isn't a path, has more than 4,096 bytes or more than 32 open brackets, has
-/// a filter on an attribute that isn't multi-valued, or has a comparison that doesn't suit its attribute's
-/// type. Fails with `Unknown` if the kind doesn't have an attribute or sub-attribute that the path names.
+/// a filter after anything but a multi-valued attribute, or has a comparison that doesn't suit the type of
+/// its attribute. Fails with `Unknown` if the kind doesn't have an attribute or sub-attribute that the path
+/// names.
 pub fn read_path(alloc: Global, kind: Kind, text: &str) -> Result<Path, Failed<PathFault>>
     ensures { UnlessMemory (λ r. spec.Names kind text.now (target_read r)) result }
 {

@@ -11,11 +11,11 @@ pub enum Path {
     Attribute(Attribute),
     /// A sub-attribute of an attribute, in all values if the attribute is multi-valued.
     SubAttribute(Attribute, SubAttribute),
-    /// The values of a multi-valued attribute that match a filter.
+    /// Those values of a multi-valued attribute that match a filter, or one sub-attribute of these values.
     Values(ValuePath),
 }
 
-/// The values of a multi-valued attribute that match a filter.
+/// Those values of a multi-valued attribute that match a filter, or one sub-attribute of these values.
 #[derive(Drop)]
 pub struct ValuePath {
     /// The attribute.

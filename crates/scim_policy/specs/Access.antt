@@ -26,8 +26,8 @@ access policy client c = record { read = decide policy client Read c; modify = d
 
 -- ---- which units may be written
 
--- the decisions that must allow the writing of a leaf, in order: on modifying it and, unless it is writeOnly,
--- on reading it
+-- the decisions that must all allow before a leaf may be written: on modifying the leaf and, unless the leaf
+-- is writeOnly, on reading it
 abbrev pub needed : Kind → Access → Leaf → List (Leaf × Decision)
 needed kind a l = (l, a.modify l) ∷ (if is_write_only kind l then [] else (l, a.read l) ∷ [])
 
@@ -42,8 +42,8 @@ forbidding kind a u = find (λ (d : Leaf × Decision). not d.1.allow) (flat_map 
 
 -- ---- which rights a change would add
 
--- the leaves on which an operation is denied before a change and allowed after it, in order, each with the
--- decision after it
+-- the leaves on which an operation is denied before a change and allowed afterwards, in order; each with the
+-- operation and the decision after the change
 abbrev pub opened : Kind → Op → (Leaf → Decision) → (Leaf → Decision) → List (Op × Leaf × Decision)
 opened kind op before after = map (λ l. (op, l, after l)) (filter (λ l. (after l).allow && not (before l).allow) (leaves kind))
 
@@ -57,6 +57,6 @@ abbrev pub first : {X : Type 0} → List X → Option X
 first [] = None
 first (x ∷ xs) = Some x
 
--- the first right that a change would add; None if it adds none
+-- the first right that a change would add; None if the change adds no right
 unfoldable pub widening : Kind → Access → Access → Option (Op × Leaf × Decision)
 widening kind before after = first (widenings kind before after)

@@ -23,15 +23,15 @@ names_attribute a t = list_any (λ (n : Named). option_eq is_same_attribute n.at
 abbrev pub is_named_in : List Rule → Attribute → Bool
 is_named_in policy a = list_any (λ (r : Rule). list_any (names_attribute a) r.targets) policy
 
--- whether the attribute is unique among the resources of the kind (RFC 7643 section 2.2, uniqueness)
+-- whether values of the attribute must be unique among the resources of the kind (RFC 7643 section 2.2)
 abbrev pub is_unique : Kind → Attribute → Bool
 is_unique kind a = list_any (λ (l : Leaf). is_same_attribute l.attribute a) (unique_leaves kind)
 
--- the values of a resource whose attributes are named by a policy's targets, or must be unique
+-- the values of those attributes of a resource that a policy's targets name or that must be unique
 unfoldable pub control : List Rule → Content → List Row
 control policy c = filter (λ (r : Row). is_named_in policy r.unit.attribute || is_unique c.kind r.unit.attribute) (rows c)
 
--- a policy makes the same decisions on two resources of one kind with equal control values
+-- if two resources of one kind have equal values of `control`, the policy makes the same decisions on both
 abbrev pub DecisionsRestOnControl : Type 0
 DecisionsRestOnControl =
     (policy : List Rule) (client : List ℕ) (op : Op) (a b : Content) (l : Leaf)

@@ -38,7 +38,7 @@ abbrev pub paths_on : Kind → List KindPaths → List PolicyPath
 paths_on k [] = []
 paths_on k (p ∷ ps) = if sameb the_kind k p.kind then p.paths else paths_on k ps
 
--- whether a rule covers a leaf of a resource, by a path for the resource's kind
+-- whether one of the rule's paths for the resource's kind covers the leaf
 abbrev pub covers_in : Content → Leaf → Rule → Bool
 covers_in c l r = list_any (covers l) (paths_on c.kind r.paths)
 
@@ -60,8 +60,8 @@ speaks_of client op c r =
 abbrev pub is_about : List ℕ → Op → Kind → Rule → Bool
 is_about client op k r = list_any (names client) r.clients && (list_any (sameb the_op op) r.ops && list_any (sameb the_kind k) r.kinds)
 
--- whether the rule names the client, the operation and the kind and has a target, so that whether it applies
--- depends on the resource
+-- whether the rule names the client, the operation and the kind, and has a target; then it depends on the
+-- resource whether the rule applies
 abbrev pub has_target_for : List ℕ → Op → Kind → Rule → Bool
 has_target_for client op k r = is_about client op k r && not (length r.targets == 0)
 
@@ -69,7 +69,7 @@ has_target_for client op k r = is_about client op k r && not (length r.targets =
 abbrev pub fits : List ℕ → Op → Content → Leaf → Rule → Bool
 fits client op c l r = speaks_of client op c r && covers_in c l r
 
--- the decision of the first of some numbered rules; if there is none, rule 0 denies
+-- the decision of the first rule in a list of numbered rules; if the list is empty, rule 0 denies
 abbrev pub first_of : List (ℕ × Rule) → Decision
 first_of [] = record { rule = 0; allow = false }
 first_of (numbered ∷ more) = record { rule = numbered.0; allow = numbered.1.allow }

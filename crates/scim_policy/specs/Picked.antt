@@ -17,6 +17,7 @@ numbered_rule n = (n.number, n.rule.now)
 abbrev pub is_met_at : Content → Leaf → (ℕ × Rule) → Bool
 is_met_at c l numbered = is_target_met c numbered.1 && covers_in c l numbered.1
 
--- the decision of the first selected rule whose target matches the resource and that covers the leaf
+-- the decision of the first selected rule that covers the leaf and has no target or one that matches the
+-- resource; if there is no such rule, rule 0 denies
 unfoldable pub decided_by : RulesAbout → Content → Leaf → Decision
 decided_by picked c l = first_of (filter (is_met_at c l) (map numbered_rule picked.rules.items))

@@ -17,7 +17,7 @@ pub record KindPaths : Type 0 where
   pub paths : List PolicyPath
 
 -- a rule: whether it allows or denies, its clients, operations and kinds, and its target and paths for each
--- kind; the list of targets is empty if it has no target
+-- kind; the list of targets is empty if the rule has no target
 pub record Rule : Type 0 where
   pub allow : Bool
   pub clients : List ClientName

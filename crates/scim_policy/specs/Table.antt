@@ -12,7 +12,7 @@ use Rattle.scim_policy.specs.declared.decisions.Decisions.{Decisions}
 use Rattle.scim_policy.specs.declared.access_rights.Rights.{Rights}
 use Rattle.scim_policy.specs.Access.{Access}
 
--- the first of two optional values that is present
+-- the first value if it is present, else the second one
 abbrev pub or_else : {Y : Type 0} → Option Y → Option Y → Option Y
 or_else None o = o
 or_else (Some y) o = Some y
@@ -27,8 +27,8 @@ abbrev pub alone : Option SubAttribute → List (SubAttribute × Decision) → O
 alone None pairs = None
 alone (Some b) pairs = at_sub_attribute b pairs
 
--- the decision on a leaf in the entry of its attribute: on the sub-attribute alone, or else on the whole
--- attribute
+-- the decision on a leaf in the entry of its attribute: the one on the sub-attribute alone if there is one,
+-- else the one on the whole attribute
 abbrev pub in_attribute : Option SubAttribute → AttributeDecisions → Option Decision
 in_attribute sub e = or_else (alone sub e.sub_attributes.items) e.whole
 
@@ -42,7 +42,7 @@ in_attributes (suc n) sub (e ∷ es) = in_attributes n sub es
 unfoldable pub decided : Decisions → Leaf → Option Decision
 decided ds l = or_else (in_attributes (tag_of the_attribute l.attribute) l.sub_attribute ds.attributes.items) ds.rest
 
--- the decision, or rule 0's denial if there is none
+-- the decision, or the denial by rule 0 if there is no decision
 abbrev pub or_denied : Option Decision → Decision
 or_denied None = record { rule = 0; allow = false }
 or_denied (Some d) = d
@@ -51,6 +51,6 @@ or_denied (Some d) = d
 unfoldable pub decision : Decisions → Leaf → Decision
 decision ds l = or_denied (decided ds l)
 
--- the decisions of three tables: on reading, on modifying and on deleting
+-- the decisions in the three tables of a client's rights: on reading, on modifying and on deleting
 abbrev pub access_in : Rights → Access
 access_in r = record { read = decision r.read; modify = decision r.modify; delete = decision r.delete }

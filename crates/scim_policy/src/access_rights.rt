@@ -51,8 +51,8 @@ impl Policy {
 
     /// Checks whether the client may write `unit` of the resource.
     ///
-    /// Returns the first leaf of the unit that it may not write, with the decision that denies it, or
-    /// `None` if it may write the unit.
+    /// Returns the first leaf of the unit that the client may not write, and the decision that denies it.
+    /// `None` if the client may write the unit.
     pub fn may_write(
         &self,
         alloc: Global,
@@ -69,8 +69,8 @@ impl Policy {
 
     /// Checks whether a change adds to the client's own rights on a resource.
     ///
-    /// Returns the first operation and leaf that the client is allowed after the change but wasn't before,
-    /// with the decision after the change, or `None` if the change adds no right.
+    /// Returns the first right that the change adds: the operation, the leaf, and the decision after the
+    /// change. `None` if the change adds no right.
     pub fn widens(
         &self,
         alloc: Global,
@@ -115,8 +115,8 @@ impl Rights {
         None
     }
 
-    /// The first operation and leaf that `self` denies and `after` allows, with the decision in `after`.
-    /// `None` if `after` adds no right.
+    /// The first right that `after` has and `self` lacks: the operation, the leaf, and the decision in
+    /// `after`. `None` if there is no such right.
     ///
     /// Reading comes before modifying, and modifying before deleting.
     #[tactic(auto, unfolding(crate::specs::Access::widening))]
@@ -145,8 +145,8 @@ impl Rights {
         }
     }
 
-    /// Whether each table has a decision for all remaining leaves, so that every leaf is decided for each
-    /// operation.
+    /// Whether each of the three tables has a decision for all leaves that have no decision of their own.
+    /// Then every leaf is decided for each operation.
     fn is_complete(&self) -> bool
         ensures { result ≡ (is_some self.now.read.rest
             && (is_some self.now.modify.rest && is_some self.now.delete.rest)) }
@@ -233,8 +233,8 @@ impl Rights {
     }
 }
 
-/// Returns the operation with the first leaf on which it is denied before a change and allowed after it, and
-/// the decision after the change. `None` if there is no such leaf.
+/// Finds the first leaf on which `op` is denied before a change and allowed afterwards. Returns `op`, the
+/// leaf and the decision after the change; `None` if there is no such leaf.
 fn first_opened(
     kind: Kind,
     op: Op,

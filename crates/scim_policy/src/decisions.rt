@@ -19,8 +19,8 @@ use std::alloc::Global;
 
 /// A decision table for a client's operation on one resource.
 ///
-/// It is computed for all leaves at once, since a rule that fits the client, the operation and the resource
-/// decides every leaf that it covers.
+/// It is computed for all leaves at once: a rule that fits the client, the operation and the resource decides
+/// every leaf that it covers and that no earlier rule has decided.
 pub struct Decisions {
     attributes: Vec<AttributeDecisions>,
     rest: Option<Decision>,
@@ -146,7 +146,8 @@ impl Decisions {
         Ok(())
     }
 
-    /// Whether there is a decision for all remaining leaves, so that every leaf is decided.
+    /// Whether there is a decision for all leaves that have no decision of their own. Then every leaf is
+    /// decided.
     pub(crate) fn has_rest(&self) -> bool
         ensures { result ≡ is_some self.now.rest }
     {
@@ -230,8 +231,8 @@ impl Decisions {
         Ok(())
     }
 
-    /// Adds the decision for each leaf of an attribute that has no decision yet. The table must not have a
-    /// decision for all remaining leaves yet.
+    /// Adds the decision for those leaves of `attribute` that have no decision yet. The table must not have a
+    /// decision for all other leaves (`rest`) yet.
     fn add_attribute(
         &mut self,
         alloc: Global,
@@ -250,7 +251,7 @@ impl Decisions {
     }
 
     /// Adds the decision for a sub-attribute, unless it or its whole attribute already has a decision. The
-    /// table must not have a decision for all remaining leaves yet.
+    /// table must not have a decision for all other leaves (`rest`) yet.
     fn add_sub_attribute(
         &mut self,
         alloc: Global,
@@ -269,8 +270,8 @@ impl Decisions {
     }
 }
 
-/// The decision on a leaf in the entry at `number`, the number of the leaf's attribute. `None` if there is
-/// none.
+/// The decision on a leaf, from the entry of its attribute: the one at index `number`. `None` if there is no
+/// such entry or no decision in it.
 fn at_number(
     entries: &[AttributeDecisions],
     number: usize,

@@ -9,7 +9,7 @@ use scim_text::NoMemory;
 use scim_value::Resource;
 use std::alloc::Global;
 
-/// The part of a rule that doesn't fit a request, in the order of checking.
+/// The first part of a rule that doesn't fit a request. The parts are checked in this order.
 #[derive(Clone, Copy, Debug, PartialEq, Eq)]
 pub enum Misfit {
     /// The rule is for other clients.
@@ -25,7 +25,8 @@ pub enum Misfit {
 }
 
 impl Policy {
-    /// The first part of a rule that doesn't fit, in the order of [`Misfit`]. `None` if the rule fits.
+    /// Returns the part of a rule that doesn't fit the request; the first one in the order of [`Misfit`] if
+    /// several don't fit. `None` if the rule fits.
     ///
     /// `rule` is the rule's number, from 1 to the number of rules.
     pub fn misfit(
@@ -48,7 +49,8 @@ impl Policy {
 }
 
 impl Rule {
-    /// The first part of the rule that doesn't fit, in the order of [`Misfit`].
+    /// Returns the part of the rule that doesn't fit the request; the first one in the order of [`Misfit`] if
+    /// several don't fit.
     ///
     /// `None` if the rule is for the client, the operation and the resource, and covers the leaf.
     #[tactic(auto, unfolding(crate::specs::Decide::speaks_of))]

@@ -60,7 +60,7 @@ impl Rule {
     }
 }
 
-/// Whether the target for the resource's kind matches it. False if no target is for that kind.
+/// Whether the target for the resource's kind matches the resource. False if no target is for that kind.
 fn holds_on(alloc: Global, targets: &[Target], resource: &Resource) -> Result<bool, NoMemory>
     ensures { IfOk result (λ b. b ≡ spec.holds_on resource.now targets.now) }
 {

@@ -181,7 +181,7 @@ impl KindPaths {
         self.kind
     }
 
-    /// The paths that the rule covers on resources of the kind.
+    /// The paths of the leaves that the rule covers on resources of the kind.
     pub fn paths(&self) -> &[PolicyPath]
         ensures { result.now ≡ self.now.paths }
     {
@@ -244,7 +244,7 @@ impl Rule {
         self.kinds.as_slice()
     }
 
-    /// The rule's target for each of its kinds. Empty if it has no target.
+    /// The rule's target for each of its kinds. Empty if the rule has no target.
     pub fn targets(&self) -> &[Target]
         ensures { result.now ≡ self.now.targets }
     {
@@ -258,7 +258,7 @@ impl Rule {
         self.paths.as_slice()
     }
 
-    /// The rule's paths for resources of `kind`. Empty if it isn't for the kind.
+    /// The rule's paths for resources of `kind`. Empty if the rule isn't for `kind`.
     pub fn paths_on(&self, kind: Kind) -> &[PolicyPath]
         ensures { result.now ≡ paths_on kind self.now.paths }
     {

@@ -15,7 +15,7 @@ use std::alloc::Global;
 
 /// The rules of a policy that name a client, an operation and a kind, in order.
 ///
-/// On each resource of the kind they make the same decisions as the whole policy.
+/// On each resource of the kind, these rules make the same decisions as the whole policy.
 pub struct RulesAbout<'p> {
     rules: Vec<NumberedRule<'p>>,
 }
@@ -36,7 +36,7 @@ struct NumberedRule<'p> {
 impl Policy {
     /// Selects the rules that name the client, the operation and the kind.
     ///
-    /// On each resource of the kind they make the same decisions as the policy. To decide on only one
+    /// On each resource of the kind, these rules make the same decisions as the policy. To decide on only one
     /// resource, call [`Policy::decisions`].
     pub fn rules_about(
         &self,
@@ -63,9 +63,9 @@ impl Policy {
 impl RulesAbout<'_> {
     /// Computes the decision table of these rules for a resource.
     ///
-    /// The first rule whose target matches and that covers a leaf decides it; if there is none, rule 0
-    /// denies. Targets are evaluated in the order of the rules, up to the first rule that matches and
-    /// covers everything.
+    /// A leaf is decided by the first rule that covers it and has no target or one that matches the resource;
+    /// if there is no such rule, rule 0 denies. Targets are evaluated in the order of the rules, up to the
+    /// first rule that matches and covers everything.
     pub fn decisions(&self, alloc: Global, resource: &Resource) -> Result<Decisions, NoMemory>
         ensures { IfOk result (λ ds. (l : Leaf)
             → decision ds l ≡ decided_by self.now resource.now l) }

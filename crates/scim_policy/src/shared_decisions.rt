@@ -13,10 +13,11 @@ use scim_text::NoMemory;
 use std::alloc::Global;
 
 impl Policy {
-    /// Computes the decision table for the client's operation on any resource of the kind, if it doesn't
-    /// depend on the resource.
+    /// Computes the decision table for the client's operation on all resources of the kind, if the decisions
+    /// don't depend on the resource.
     ///
-    /// `None` if a rule that may decide has a target, so that the decisions depend on the resource.
+    /// `None` if a rule for the client, the operation and the kind has a target, and no earlier rule for
+    /// these covers every leaf.
     pub fn decisions_on_all(
         &self,
         alloc: Global,

@@ -14,8 +14,8 @@ use Rattle.scim_policy_file.specs.Lists.{each}
 use Rattle.scim_policy_file.specs.Paths.{client_named, paths_named}
 use Rattle.scim_policy_file.specs.Targets.{◌>>=◌, or_name, targets_for}
 
--- the result of reading a part of a file: a value, or a fault with the number of the faulty rule, 0 for the
--- file
+-- the result of reading a part of a file: a value, or a fault with the number of the faulty rule, or with 0
+-- if the file itself is faulty
 abbrev pub Says : Type 0 → Type 0
 Says X = Result X PolicyFault
 
@@ -36,15 +36,15 @@ abbrev pub filled : {X : Type 0} → List X → Option (List X)
 filled [] = None
 filled (x ∷ xs) = Some (x ∷ xs)
 
--- the items of a non-empty array
+-- the items of a non-empty array; None for any other value
 abbrev pub items_in : Json → Option (List Json)
 items_in d = option_and_then (λ ds. filled (listed ds)) (as_array d)
 
--- the texts of a non-empty array of texts
+-- the strings of a non-empty array of strings; None for any other value
 abbrev pub texts_in : Json → Option (List (List ℕ))
 texts_in d = option_and_then (each as_str) (items_in d)
 
--- the object, if it has no other keys than these
+-- the value, if it is an object in which each key is one of these words
 abbrev pub object_of_only : List (List ℕ) → Json → Option Json
 object_of_only words d = option_and_then (λ ms. if has_only words ms then Some d else None) (as_object d)
 
@@ -63,24 +63,25 @@ pub record RuleTexts : Type 0 where
 abbrev pub rule_keys : List (List ℕ)
 rule_keys = codes "allow" ∷ codes "clients" ∷ codes "ops" ∷ codes "types" ∷ codes "target" ∷ codes "paths" ∷ []
 
--- the value of `allow`, if it is a boolean
+-- the value of `allow` in a rule, if it is a boolean
 abbrev pub allow_in : Json → Option Bool
 allow_in d = option_and_then as_bool (get (codes "allow") d)
 
--- the texts of the non-empty array at a key
+-- the strings of the non-empty array at a key; None if the key is missing or has any other value
 abbrev pub texts_at : List ℕ → Json → Option (List (List ℕ))
 texts_at key d = option_and_then texts_in (get key d)
 
--- the text of an optional target, Some None if there is no target, or None if it isn't a text
+-- the text of an optional target, Some None if there is no target, or None if the target isn't a string
 abbrev pub target_text : Option Json → Option (Option (List ℕ))
 target_text None = Some None
 target_text (Some d) = option_map (λ t. Some t) (as_str d)
 
--- the text of a rule's target, Some None if it has no target, or None if it isn't a text
+-- the text of a rule's target, Some None if the rule has no target, or None if the target isn't a string
 abbrev pub target_in : Json → Option (Option (List ℕ))
 target_in d = target_text (get (codes "target") d)
 
--- the texts of a rule, whatever other keys it has; None if a key is missing or a value has the wrong type
+-- the texts of a rule, without a check for unknown keys; None if a key other than `target` is missing, or a
+-- value has the wrong type
 abbrev pub rule_fields : Json → Option RuleTexts
 rule_fields d =
     option_and_then (λ allow. option_and_then (λ clients. option_and_then (λ ops. option_and_then (λ types. option_and_then (λ target. option_map (λ paths.
@@ -92,8 +93,8 @@ rule_fields d =
 unfoldable pub rule_texts : Json → Option RuleTexts
 rule_texts d = option_and_then rule_fields (object_of_only rule_keys d)
 
--- the rule that these texts describe, or the cause of its first fault: of its clients, operations and types,
--- then of its target, then of its paths
+-- the rule that these texts describe, or the cause of the first fault; the clients, operations and types are
+-- read first, then the target, then the paths
 unfoldable pub rule_named : RuleTexts → Result Rule Cause
 rule_named t =
     or_name (each client_named t.clients) >>= λ clients. or_name (each operation_named t.ops) >>= λ ops. or_name (each kind_named t.types) >>= λ kinds.
@@ -105,7 +106,7 @@ abbrev pub named_or_fault : ℕ → Result Rule Cause → Says Rule
 named_or_fault n (Err cause) = Err (record { rule = n; cause = cause })
 named_or_fault n (Ok r) = Ok r
 
--- the rule that the texts describe, or its first fault; the fault `Shape` if there are no texts
+-- the n-th rule, which the texts describe, or its first fault; the fault `Shape` if there are no texts
 abbrev pub shaped_or_fault : ℕ → Option RuleTexts → Says Rule
 shaped_or_fault n None = Err (record { rule = n; cause = Shape })
 shaped_or_fault n (Some t) = named_or_fault n (rule_named t)
@@ -114,7 +115,7 @@ shaped_or_fault n (Some t) = named_or_fault n (rule_named t)
 abbrev pub rule_of : ℕ → Json → Says Rule
 rule_of n d = shaped_or_fault n (rule_texts d)
 
--- the list of a rule and the rules after it, or the first fault
+-- the list of a rule and the rules after it, or the first fault among all of them
 abbrev pub and_then : Says Rule → Says (List Rule) → Says (List Rule)
 and_then (Err f) rest = Err f
 and_then (Ok r) (Err f) = Err f
@@ -149,7 +150,7 @@ is_integer t = not (list_any begins_part t)
 abbrev pub integer_in : Json → Option (List ℕ)
 integer_in d = option_and_then (λ n. if is_integer n then Some n else None) (as_number d)
 
--- the version and the rules of a file, whatever other keys it has
+-- the version and the rules of a file, without a check for unknown keys
 abbrev pub parts_in : Json → Option Parts
 parts_in d =
     option_and_then (λ version. option_map (λ rules. record { version = version; rules = rules })
@@ -168,7 +169,8 @@ rules_or_fault p =
     then (if nat_lt MOST_RULES (length p.rules) then Err (record { rule = 0; cause = TooManyRules }) else rules_from 1 p.rules)
     else Err (record { rule = 0; cause = Version })
 
--- the rules of a file with these parts, or its first fault; the fault `Shape` if there are no parts
+-- the rules of a file with this version and these rules, or its first fault; the fault `Shape` if there is
+-- neither
 abbrev pub parts_or_fault : Option Parts → Says (List Rule)
 parts_or_fault None = Err (record { rule = 0; cause = Shape })
 parts_or_fault (Some p) = rules_or_fault p
@@ -182,7 +184,7 @@ abbrev pub value_or_fault : Option Json → Says (List Rule)
 value_or_fault None = Err (record { rule = 0; cause = cause.Json })
 value_or_fault (Some d) = policy_in d
 
--- the rules of a text read as a policy file, or its first fault; faults of the file come before faults of
--- its rules, which come in the order of the rules
+-- the rules of a text read as a policy file, or the first fault; faults of the file come before faults of
+-- its rules, and faults of a rule come before faults of later rules
 unfoldable pub policy_of : List ℕ → Says (List Rule)
 policy_of text = value_or_fault (document text)

@@ -23,11 +23,11 @@ unfoldable pub is_client_name : List ℕ → Bool
 is_client_name t = nat_le 1 (length t) && (nat_le (length t) 64 && list_all is_client_byte t)
 
 -- the client that an entry of `clients` names: everyone for `*`, else the client with that name;
--- None if it isn't a valid name
+-- None if the entry is neither `*` nor a valid name
 abbrev pub client_named : List ℕ → Option ClientName
 client_named t = if is_same_text t (codes "*") then Some Everyone else (if is_client_name t then Some (Named t) else None)
 
--- the policy path for the attribute or sub-attribute meant; None for `Nothing`
+-- the policy path for the attribute or sub-attribute that a path means; None for `Nothing`
 abbrev pub covered_by : Meant → Option PolicyPath
 covered_by meant.Nothing = None
 covered_by (meant.Attribute a) = Some (Attribute a)
@@ -46,12 +46,10 @@ path_named t kind = if is_same_text t (codes "*") then Some Everything else path
 abbrev pub is_path : List Kind → List ℕ → Bool
 is_path kinds t = list_any (λ k. is_some (path_named t k)) kinds
 
--- the paths of all entries on resources of a kind, without entries that aren't valid for
--- the kind
+-- all entries of `paths`, read for resources of a kind; entries that aren't valid for the kind are skipped
 abbrev pub paths_for : List (List ℕ) → Kind → KindPaths
 paths_for texts kind = record { kind = kind; paths = filter_map (λ t. path_named t kind) texts }
 
--- the paths for a rule on each of these kinds; None if an entry is valid for none of the
--- kinds
+-- the paths of a rule for each of these kinds; None if an entry is valid for none of the kinds
 abbrev pub paths_named : List Kind → List (List ℕ) → Option (List KindPaths)
 paths_named kinds texts = if list_all (is_path kinds) texts then Some (map (paths_for texts) kinds) else None

@@ -14,7 +14,7 @@ use Rattle.scim_policy_file.specs.declared.faults.Cause.TheVariants as cause
 use Rattle.scim_policy.specs.Rules.{Target}
 use Rattle.scim_policy_file.specs.Lists.{each}
 
--- the result of the second step on the value of the first, or the fault of the first step
+-- the result of the second step, applied to the value of the first step, or the fault of the first step
 infixl 10 ◌>>=◌
 abbrev pub ◌>>=◌ : {A B : Type 0} → Result A Cause → (A → Result B Cause) → Result B Cause
 (Ok x) >>= f = f x
@@ -28,16 +28,17 @@ or_name o = ok_or o cause.Name
 abbrev pub target_on : List ℕ → Kind → Option Target
 target_on text kind = option_map (λ tree. record { kind = kind; tree = tree }) (filter_in kind text)
 
--- whether there is a name and it refers to an attribute
+-- whether there is a name, and the name refers to an attribute
 abbrev pub is_known_name : Option Named → Bool
 is_known_name None = false
 is_known_name (Some n) = is_known n
 
--- whether the name at a place, from 0, refers to an attribute
+-- whether the list has a name at this index, from 0, that refers to an attribute
 abbrev pub is_known_at : ℕ → List Named → Bool
 is_known_at i ns = is_known_name (slice_get ns i)
 
--- whether each name, the first of them at place i, refers to an attribute in one of the lists
+-- whether, for each index from i on, at least one list has a name at that index that refers to an attribute;
+-- there are as many indices as the last argument has elements
 abbrev pub are_known_from : ℕ → List (List Named) → List Named → Bool
 are_known_from i lists [] = true
 are_known_from i lists (n ∷ ns) = list_any (is_known_at i) lists && are_known_from (i + 1) lists ns
@@ -57,11 +58,12 @@ is_withheld (Some a) = sameb the_attribute a Groups || (sameb the_attribute a Pa
 abbrev pub name_withheld : List Named → Bool
 name_withheld ns = list_any (λ (n : Named). is_withheld n.attribute) ns
 
--- the targets, if their names are known and allowed, or the cause of the first fault
+-- the targets; the cause `Name` if a name refers to an attribute of none of the kinds, else `TargetNames` if
+-- a name refers to `groups`, `password` or `meta`
 abbrev pub allowed : List (List Named) → List Target → Result (List Target) Cause
 allowed lists ts = if are_known lists then (if list_any name_withheld lists then Err cause.TargetNames else Ok ts) else Err cause.Name
 
--- the names in the targets, one list for each kind
+-- the attribute names in each of the targets, one list for each target
 abbrev pub names_of : List Target → List (List Named)
 names_of ts = map (λ (t : Target). mentioned_names t.tree) ts
 

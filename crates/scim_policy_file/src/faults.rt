@@ -7,7 +7,7 @@ pub enum Cause {
     /// The file isn't JSON.
     #[error("json")]
     Json,
-    /// A value has the wrong type (as a version that isn't an integer), a list is empty, or a key is
+    /// A value has the wrong type (for example, the version isn't an integer), a list is empty, or a key is
     /// missing or unknown.
     #[error("shape")]
     Shape,
@@ -29,7 +29,7 @@ pub enum Cause {
     TargetNames,
 }
 
-/// Why a policy file is refused. `rule` is the number of the faulty rule, from 1, or 0 if the file
+/// The reason why a policy file is refused. `rule` is the number of the faulty rule, from 1, or 0 if the file
 /// itself is faulty.
 #[derive(Clone, Copy, Debug, PartialEq, Eq, Error)]
 #[error("rule {rule}: {cause}")]

@@ -1,4 +1,4 @@
-//! Reads policy files, or reports the first fault and the rule that has it.
+//! Reads policy files, or reports the first fault and the number of the faulty rule.
 //!
 //! Cases: `crates/cases/data/policy.jsonl` and `targets.jsonl`.
 #![tactic(auto)]

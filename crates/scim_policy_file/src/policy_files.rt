@@ -48,8 +48,8 @@ struct WrittenRule<'v> {
 /// `create`, `modify`, `delete`), `types` (`User`, `Group`) and `paths` (`*`, an attribute, or
 /// `attribute.subAttribute`, with or without a URN before it and spaces around it; names match in any ASCII
 /// case). These keys are required, and no list may be empty. The optional key `target` is a filter on each
-/// of the types; other keys are faults. Each name in a target must be known to at least one of the
-/// types, and must not be `groups`, `password` or `meta`. On a type that doesn't know it, the name has no
+/// of the types; other keys are faults. Each name in a target must be an attribute of at least one of the
+/// types, and must not be `groups`, `password` or `meta`. On a type without that attribute, the name has no
 /// value.
 ///
 /// Fails with the first fault. Faults of the file (rule 0) come first, in the order of [`Cause`], then the
@@ -67,9 +67,9 @@ pub fn read_policy(alloc: Global, text: &str) -> Result<Policy, Failed<PolicyFau
     }
 }
 
-/// Parses the file as JSON.
+/// Parses the text of a policy file as JSON.
 ///
-/// Fails with `Json` for rule 0 if it isn't JSON.
+/// Fails with `Json` for rule 0 if the text isn't JSON.
 #[tactic(auto, unfolding(crate::specs::File::policy_of))]
 fn parse<'t>(
     alloc: Global,
@@ -91,7 +91,8 @@ fn parse<'t>(
 
 /// The rules of a file as JSON, at most 1,000.
 ///
-/// Fails with `Shape`, `Version` or `TooManyRules`, the cause of the first fault of the file itself.
+/// Fails with `Shape` if the file has the wrong keys or types or no rules, else with `Version` if the version
+/// isn't 1, else with `TooManyRules` if there are more than 1,000 rules.
 fn file_rules<'v, 't>(value: &'v Value<'t>) -> Result<&'v [Value<'t>], Cause>
     ensures rules { IfOk result (λ vs. spec.policy_in (value_view value.now)
         ≡ spec.rules_from 1 (map value_view vs.now)) }
@@ -112,8 +113,8 @@ fn file_rules<'v, 't>(value: &'v Value<'t>) -> Result<&'v [Value<'t>], Cause>
     Ok(parts.rules)
 }
 
-/// The version and the rules of a file. `None` if a key is missing or unknown, the version isn't an
-/// integer, or the rules aren't a non-empty list.
+/// The version and the rules of a file. `None` if the value isn't an object, a key is missing or unknown, the
+/// version isn't an integer, or the rules aren't a non-empty list.
 #[tactic(auto, unfolding(crate::specs::File::file_parts))]
 fn file_parts<'v, 't>(value: &'v Value<'t>) -> Option<FileParts<'v, 't>>
     ensures { option_map parts_view result ≡ spec.file_parts (value_view value.now) }
@@ -126,7 +127,7 @@ fn file_parts<'v, 't>(value: &'v Value<'t>) -> Option<FileParts<'v, 't>>
     Some(FileParts { version, rules })
 }
 
-/// The members of an object. `None` if the value isn't one.
+/// The members of an object. `None` if the value isn't an object.
 fn members_in<'v, 't>(value: &'v Value<'t>) -> Option<&'v [(&'t str, Value<'t>)]>
     ensures { option_map (λ ms. members_view ms.now) result ≡ as_object (value_view value.now) }
 {
@@ -155,7 +156,7 @@ fn is_file_key(key: &str) -> bool
     key == "version" || key == "rules"
 }
 
-/// The text of an integer. `None` if the value isn't one.
+/// The text of an integer. `None` if the value isn't an integer.
 fn integer_in<'t>(value: &Value<'t>) -> Option<&'t str>
     ensures { option_map text_at result ≡ spec.integer_in (value_view value.now) }
 {
@@ -188,7 +189,7 @@ fn begins_part(byte: u8) -> bool
     byte == b'.' || byte == b'e' || byte == b'E'
 }
 
-/// The items of an array. `None` if the value isn't one.
+/// The items of an array. `None` if the value isn't an array.
 fn array_in<'v, 't>(value: &'v Value<'t>) -> Option<&'v [Value<'t>]>
     ensures { option_map (λ vs. items_view vs.now) result ≡ as_array (value_view value.now) }
 {
@@ -198,7 +199,7 @@ fn array_in<'v, 't>(value: &'v Value<'t>) -> Option<&'v [Value<'t>]>
     }
 }
 
-/// The items of a non-empty array. `None` if the value isn't one.
+/// The items of a non-empty array. `None` if the value is anything else.
 fn items_in<'v, 't>(value: &'v Value<'t>) -> Option<&'v [Value<'t>]>
     ensures { option_map (λ vs. map value_view vs.now) result
         ≡ spec.items_in (value_view value.now) }
@@ -253,7 +254,8 @@ fn read_rule(alloc: Global, value: &Value<'_>, number: u32) -> Result<Rule, Fail
     }
 }
 
-/// The texts of a rule. `None` if a key is missing or unknown, or a value has the wrong type.
+/// The rule as it is written in the file. `None` if a key other than `target` is missing, a key is unknown,
+/// or a value has the wrong type.
 #[tactic(auto, unfolding(crate::specs::File::rule_texts))]
 fn written_rule<'t>(alloc: Global, value: &Value<'t>) -> Result<Option<WrittenRule<'t>>, NoMemory>
     ensures { IfOk result (λ o. option_map rule_view o ≡ spec.rule_texts (value_view value.now)) }
@@ -288,8 +290,8 @@ fn is_rule_key(key: &str) -> bool
         || key == "paths"
 }
 
-/// The texts of a rule, whatever other keys it has. `None` if a key is missing or a value has the wrong
-/// type.
+/// The rule as it is written in the file, without a check for unknown keys. `None` if a key other than
+/// `target` is missing, or a value has the wrong type.
 fn rule_fields<'t>(alloc: Global, value: &Value<'t>) -> Result<Option<WrittenRule<'t>>, NoMemory>
     ensures { IfOk result (λ o. option_map rule_view o ≡ spec.rule_fields (value_view value.now)) }
 {
@@ -321,14 +323,15 @@ fn rule_fields<'t>(alloc: Global, value: &Value<'t>) -> Result<Option<WrittenRul
     }))
 }
 
-/// The value of `allow`. `None` if it is missing or not a boolean.
+/// The value of `allow` in a rule. `None` if the key is missing or its value isn't a boolean.
 fn allow_in(value: &Value<'_>) -> Option<bool>
     ensures { result ≡ spec.allow_in (value_view value.now) }
 {
     value.get("allow")?.as_bool()
 }
 
-/// The text of the target, or `Some(None)` if there is no target. `None` if it isn't a text.
+/// The text of a rule's target, or `Some(None)` if the rule has no target. `None` if the target isn't a
+/// string.
 fn target_in<'t>(value: &Value<'t>) -> Option<Option<&'t str>>
     ensures { option_map (λ o. option_map text_at o) result
         ≡ spec.target_in (value_view value.now) }
@@ -339,7 +342,8 @@ fn target_in<'t>(value: &Value<'t>) -> Option<Option<&'t str>>
     }
 }
 
-/// The texts of the non-empty array of texts at this key. `None` if the key is missing or has another value.
+/// The strings of the non-empty array at this key. `None` if the key is missing or its value isn't a
+/// non-empty array of strings.
 fn texts_at<'t>(
     alloc: Global,
     value: &Value<'t>,
@@ -354,7 +358,7 @@ fn texts_at<'t>(
     }
 }
 
-/// The texts of a non-empty array of texts. `None` if the value isn't one.
+/// The strings of a non-empty array of strings. `None` if the value is anything else.
 fn texts_in<'t>(alloc: Global, value: &Value<'t>) -> Result<Option<Vec<&'t str>>, NoMemory>
     ensures { IfOk result (λ o. option_map texts_view o ≡ spec.texts_in (value_view value.now)) }
 {
@@ -364,7 +368,7 @@ fn texts_in<'t>(alloc: Global, value: &Value<'t>) -> Result<Option<Vec<&'t str>>
     }
 }
 
-/// The texts of these values. `None` if one isn't a text.
+/// The text of each of the values. `None` if a value isn't a string.
 fn texts_of<'t>(alloc: Global, items: &[Value<'t>]) -> Result<Option<Vec<&'t str>>, NoMemory>
     ensures { IfOk result (λ o. option_map texts_view o ≡ each as_str (map value_view items.now)) }
 {
@@ -378,7 +382,7 @@ fn texts_of<'t>(alloc: Global, items: &[Value<'t>]) -> Result<Option<Vec<&'t str
     Ok(Some(texts))
 }
 
-/// Reads a rule from its texts: its clients, operations and types, then its target, then its paths.
+/// Reads the parts of a written rule in this order: clients, operations, types, target, paths.
 ///
 /// Fails with the cause of the first fault in that order.
 #[tactic(auto, unfolding(crate::specs::File::rule_named))]
@@ -401,7 +405,7 @@ fn rule_named(alloc: Global, written: &WrittenRule<'_>) -> Result<Rule, Failed<C
     Ok(Rule::new(written.allow, clients, ops, kinds, targets, paths))
 }
 
-/// Reads the clients. `None` if one is invalid.
+/// Reads the clients of a rule. `None` if a text is neither `*` nor a valid client name.
 fn clients_named(alloc: Global, texts: &[&str]) -> Result<Option<Vec<ClientName>>, NoMemory>
     ensures { IfOk result (λ o. option_map (λ v. v.items) o
         ≡ each client_named (map text_at texts.now)) }
@@ -416,7 +420,7 @@ fn clients_named(alloc: Global, texts: &[&str]) -> Result<Option<Vec<ClientName>
     Ok(Some(clients))
 }
 
-/// Reads the operations. `None` if one is unknown.
+/// Reads the operations of a rule. `None` if an operation is unknown.
 fn ops_named(alloc: Global, texts: &[&str]) -> Result<Option<Vec<Op>>, NoMemory>
     ensures { IfOk result (λ o. option_map (λ v. v.items) o
         ≡ each operation_named (map text_at texts.now)) }
@@ -431,7 +435,7 @@ fn ops_named(alloc: Global, texts: &[&str]) -> Result<Option<Vec<Op>>, NoMemory>
     Ok(Some(ops))
 }
 
-/// Reads the kinds. `None` if one is unknown.
+/// Reads the types of a rule. `None` if a type is unknown.
 fn kinds_named(alloc: Global, texts: &[&str]) -> Result<Option<Vec<Kind>>, NoMemory>
     ensures { IfOk result (λ o. option_map (λ v. v.items) o
         ≡ each kind_named (map text_at texts.now)) }

@@ -10,7 +10,7 @@ use scim_schema::Kind;
 use scim_text::{NoMemory, push};
 use std::alloc::Global;
 
-/// The policy path for the attribute or sub-attribute meant. `None` for `Nothing`.
+/// The policy path for the attribute or sub-attribute that a path means. `None` for `Meant::Nothing`.
 fn covered_by(meant: Meant) -> Option<PolicyPath>
     ensures { result ≡ spec.covered_by meant }
 {
@@ -23,15 +23,16 @@ fn covered_by(meant: Meant) -> Option<PolicyPath>
     }
 }
 
-/// Reads an attribute path on resources of a kind. `None` if it isn't the path of an attribute or
-/// sub-attribute of the kind.
+/// Reads the text as an attribute path on resources of a kind. `None` if the text isn't the path of an
+/// attribute or sub-attribute of the kind.
 fn path_on(text: &str, kind: Kind) -> Option<PolicyPath>
     ensures { result ≡ spec.path_on text.now kind }
 {
     covered_by(attribute_path(kind, text)?)
 }
 
-/// Reads an entry of `paths` on resources of a kind: `*` or an attribute path. `None` if it is neither.
+/// Reads an entry of `paths` for resources of a kind: `*` or an attribute path. `None` if the entry is
+/// neither.
 fn path_named(text: &str, kind: Kind) -> Option<PolicyPath>
     ensures { result ≡ spec.path_named text.now kind }
 {
@@ -61,8 +62,7 @@ fn are_paths(kinds: &[Kind], texts: &[&str]) -> bool
     true
 }
 
-/// The paths of all entries on resources of a kind. Entries that aren't valid for the kind are
-/// skipped.
+/// Reads all entries of `paths` for resources of a kind. Entries that aren't valid for the kind are skipped.
 fn paths_for(alloc: Global, texts: &[&str], kind: Kind) -> Result<KindPaths, NoMemory>
     ensures { IfOk result (λ p. p ≡ spec.paths_for (map text_at texts.now) kind) }
 {
@@ -75,8 +75,8 @@ fn paths_for(alloc: Global, texts: &[&str], kind: Kind) -> Result<KindPaths, NoM
     Ok(KindPaths::new(kind, paths))
 }
 
-/// Reads the entries of `paths` for a rule on these kinds. `None` if an entry is neither `*` nor the path of
-/// an attribute or sub-attribute of one of these kinds.
+/// Reads the entries of `paths` of a rule for each of the kinds. `None` if an entry is neither `*` nor the
+/// path of an attribute or sub-attribute of one of the kinds.
 pub(crate) fn paths_named(
     alloc: Global,
     kinds: &[Kind],

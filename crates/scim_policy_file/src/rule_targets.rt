@@ -12,9 +12,12 @@ use scim_schema::{Attribute, Kind};
 use scim_text::{Failed, NoMemory, push};
 use std::alloc::Global;
 
-/// Reads an optional target for a rule on these kinds. Empty if there is no target.
+/// Reads the optional target of a rule, as a filter on each of the kinds. Returns no filters if `text` is
+/// `None`.
 ///
-/// Fails with `Target`, `Name` or `TargetNames`, as `targets_in` does.
+/// Fails with `Target` if the text isn't a filter on each kind, else with `Name` if the text names an
+/// attribute that none of the kinds has, else with `TargetNames` if the text names `groups`, `password` or
+/// `meta`.
 pub(crate) fn targets_for(
     alloc: Global,
     kinds: &[Kind],
@@ -29,10 +32,11 @@ pub(crate) fn targets_for(
     }
 }
 
-/// Reads a target for a rule on these kinds, as a filter on each of them.
+/// Reads the target of a rule, as a filter on each of the kinds.
 ///
-/// Fails with `Target` if the text isn't a filter on each kind. Fails with `Name` if none of the kinds knows
-/// one of its names. Fails with `TargetNames` if it names `groups`, `password` or `meta`.
+/// Fails with `Target` if the text isn't a filter on each kind, else with `Name` if the text names an
+/// attribute that none of the kinds has, else with `TargetNames` if the text names `groups`, `password` or
+/// `meta`.
 #[tactic(auto, unfolding(crate::specs::Targets::targets_in))]
 fn targets_in(alloc: Global, kinds: &[Kind], text: &str) -> Result<Vec<Target>, Failed<Cause>>
     ensures { Gives (λ v. v.items) result (spec.targets_in kinds.now text.now) }
@@ -65,7 +69,7 @@ fn targets_on(alloc: Global, kinds: &[Kind], text: &str) -> Result<Option<Vec<Ta
     Ok(Some(targets))
 }
 
-/// Reads the text as a filter on resources of a kind. `None` if it isn't one.
+/// Reads the text as a filter on resources of a kind. `None` if it isn't a valid filter.
 fn target_on(alloc: Global, kind: Kind, text: &str) -> Result<Option<Target>, NoMemory>
     ensures { IfOk result (λ o. o ≡ spec.target_on text.now kind) }
 {
@@ -76,7 +80,7 @@ fn target_on(alloc: Global, kind: Kind, text: &str) -> Result<Option<Target>, No
     }
 }
 
-/// The names in the targets, one list for each kind.
+/// The attribute names in each of the targets, one list for each target.
 fn names_of(alloc: Global, targets: &[Target]) -> Result<Vec<Vec<Named>>, NoMemory>
     ensures { IfOk result (λ v. map (λ ns. ns.items) v.items ≡ spec.names_of targets.now) }
 {
@@ -87,8 +91,8 @@ fn names_of(alloc: Global, targets: &[Target]) -> Result<Vec<Vec<Named>>, NoMemo
     Ok(lists)
 }
 
-/// Whether each name is known to one of the kinds. Each list has all names of the target, in order, as
-/// read for one of the kinds.
+/// Whether each name refers to an attribute of at least one of the kinds. Each list has all names of the
+/// target, in order, as read for one of the kinds.
 fn are_known(lists: &[Vec<Named>]) -> bool
     ensures { result ≡ spec.are_known (map (λ ns. ns.items) lists.now) }
 {
@@ -98,7 +102,8 @@ fn are_known(lists: &[Vec<Named>]) -> bool
     }
 }
 
-/// Whether, at the place of each of `names`, at least one of the lists has a known name.
+/// Whether, for each index of `names`, at least one of the lists has a name at that index that refers to an
+/// attribute.
 fn are_all_known(lists: &[Vec<Named>], names: &[Named]) -> bool
     ensures { result ≡ spec.are_known_from 0 (map (λ ns. ns.items) lists.now) names.now }
 {
@@ -112,7 +117,7 @@ fn are_all_known(lists: &[Vec<Named>], names: &[Named]) -> bool
     true
 }
 
-/// Whether the name at `place` is known in one of the lists.
+/// Whether at least one of the lists has a name at index `place` that refers to an attribute.
 fn is_known(lists: &[Vec<Named>], place: usize) -> bool
     ensures { result ≡ list_any (spec.is_known_at place) (map (λ ns. ns.items) lists.now) }
 {
@@ -124,7 +129,7 @@ fn is_known(lists: &[Vec<Named>], place: usize) -> bool
     false
 }
 
-/// Whether the name at `place` refers to an attribute of the list's kind.
+/// Whether there is a name at index `place` and it refers to an attribute.
 fn is_known_at(names: &[Named], place: usize) -> bool
     ensures { result ≡ spec.is_known_at place names.now }
 {
@@ -134,7 +139,7 @@ fn is_known_at(names: &[Named], place: usize) -> bool
     }
 }
 
-/// Whether any name refers to `groups`, `password` or `meta`.
+/// Whether a name in one of the lists refers to `groups`, `password` or `meta`.
 fn is_one_withheld(lists: &[Vec<Named>]) -> bool
     ensures { result ≡ list_any spec.name_withheld (map (λ ns. ns.items) lists.now) }
 {

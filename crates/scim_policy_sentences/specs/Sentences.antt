@@ -15,23 +15,23 @@ use Rattle.scim_policy_sentences.specs.Lists.{joined, listed}
 use Rattle.scim_policy_sentences.specs.Targets.{target_on, tree_text}
 use Rattle.scim_explain.specs.Texts.{effect_word, rule_line}
 
--- the word for a client, or for all clients
+-- the name of a client, or `any client` for all clients
 abbrev pub client_word : ClientName → List ℕ
 client_word Everyone = codes "any client"
 client_word (Named name) = name
 
--- the word for a path
+-- the text of a path as in policy files, or `everything` for all paths
 abbrev pub path_word : PolicyPath → List ℕ
 path_word Everything = codes "everything"
 path_word (Attribute a) = leaf_path (simple a)
 path_word (SubAttribute a b) = leaf_path (leaf_at a b)
 
--- the words for a target; none if there is no target
+-- the text ` where ` and the target; empty if there is no target
 abbrev pub target_clause : Option Target → List ℕ
 target_clause None = []
 target_clause (Some t) = codes " where " ++ tree_text t.tree
 
--- the words for a rule's target on resources of a kind
+-- the text ` where ` and the rule's target on resources of a kind; empty if there is no target
 abbrev pub target_words : Rule → Kind → List ℕ
 target_words r k = target_clause (target_on k r.targets)
 

@@ -38,7 +38,7 @@ literal_data literal.Null = null
 abbrev pub path_words : AttributePath → List ℕ
 path_words p = path_text p.urn (names_text p.name p.sub_name)
 
--- a text, in brackets if they are needed
+-- the text, in brackets if the Bool is true
 abbrev pub bracketed : Bool → List ℕ → List ℕ
 bracketed needs text = if needs then codes "(" ++ text ++ codes ")" else text
 
@@ -53,7 +53,7 @@ is_join (Or a b) = true
 is_join (And a b) = true
 is_join t = false
 
--- the text of a tree; `and` binds before `or` and both nest to the right, so other nestings are in
+-- the text of a filter; `and` binds tighter than `or` and both nest to the right, so other nestings are in
 -- brackets, as is the operand of `not`
 abbrev pub tree_text : Tree → List ℕ
 tree_text (Or a b) = bracketed (is_or a) (tree_text a) ++ codes " or " ++ tree_text b

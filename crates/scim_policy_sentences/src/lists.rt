@@ -5,15 +5,15 @@ ghost use Rattle.scim_policy_sentences.specs.Lists as spec;
 use scim_text::NoMemory;
 use std::alloc::Global;
 
-/// Joins words as a sentence does: `a`, `a and b`, `a, b and c`, or `nothing` if there are none.
+/// Joins words as in a sentence: `a`, `a and b`, `a, b and c`, or `nothing` if there are no words.
 pub(crate) fn listed(alloc: Global, words: &[String]) -> Result<String, NoMemory>
     ensures { IfOk result (λ text. string_bytes text ≡ spec.listed (map string_bytes words.now)) }
 {
     joined(alloc, words, ", ", " and ")
 }
 
-/// Joins words with `mark` between them and `last` before the last one. Returns `nothing` if there are
-/// none.
+/// Joins words with separators: `last` before the last word, and `mark` between the other words. Returns
+/// `nothing` if there are no words.
 pub(crate) fn joined(
     alloc: Global,
     words: &[String],
@@ -31,7 +31,8 @@ pub(crate) fn joined(
     Ok(text)
 }
 
-/// Appends the words after the first one, each after its mark. On an error `text` may have some of them.
+/// Appends all words except the first, each after its separator: `last` before the last word, `mark` before
+/// each other word. On an error `text` may have some of the words.
 fn push_further(text: &mut String, words: &[String], mark: &str, last: &str) -> Result<(), NoMemory>
     ensures { OnOk result (string_bytes text.new
         ≡ string_bytes text.old ++ spec.further mark.now last.now (map string_bytes words.now)) }
@@ -43,7 +44,7 @@ fn push_further(text: &mut String, words: &[String], mark: &str, last: &str) -> 
     Ok(())
 }
 
-/// The mark before the word at `index`: `last` if it is the last of `count` words, `mark` otherwise.
+/// The separator before the word at `index`: `last` if it is the last of `count` words, `mark` otherwise.
 fn mark_before<'m>(index: usize, count: usize, mark: &'m str, last: &'m str) -> &'m str
     requires { index < count }
     ensures { result.now ≡ (if index + 1 == count then last.entry.now else mark.entry.now) }

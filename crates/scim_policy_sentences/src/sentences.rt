@@ -17,9 +17,9 @@ use std::alloc::Global;
 
 /// Prints the rules of the policy, each on a line.
 ///
-/// A line is `rule N: `, then whether the rule allows or denies, the clients, the operations, and for each
-/// type the target and the paths, such as `rule 3: allow mail to read User: id and emails` and `rule 2: deny
-/// mail to read User where userType eq "Contractor": everything`.
+/// A line has `rule N: `, then `allow` or `deny`, the clients, the operations, and for each type the target
+/// and the paths. Examples are `rule 3: allow mail to read User: id and emails` and `rule 2: deny mail to
+/// read User where userType eq "Contractor": everything`.
 pub fn rule_sentences(alloc: Global, policy: &Policy) -> Result<String, NoMemory>
     ensures { IfOk result (λ text. string_bytes text ≡ spec.rule_sentences policy.now) }
 {
@@ -40,7 +40,7 @@ fn sentence_line(alloc: Global, number: usize, rule: &Rule) -> Result<String, No
     rule_line(alloc, number, sentence.as_str())
 }
 
-/// The sentence of a rule.
+/// The sentence of a rule, such as `allow mail to read User: id and emails`.
 fn sentence(alloc: Global, rule: &Rule) -> Result<String, NoMemory>
     ensures { IfOk result (λ text. string_bytes text ≡ spec.sentence rule.now) }
 {
@@ -51,7 +51,7 @@ fn sentence(alloc: Global, rule: &Rule) -> Result<String, NoMemory>
     Ok(format!(in alloc; "{effect} {clients} to {ops} {kinds}")?)
 }
 
-/// The clients of a rule, as a list of words.
+/// The clients of a rule, joined as in a sentence.
 fn clients_text(alloc: Global, clients: &[ClientName]) -> Result<String, NoMemory>
     ensures { IfOk result (λ text. string_bytes text
         ≡ listed_words (map spec.client_word clients.now)) }
@@ -63,7 +63,7 @@ fn clients_text(alloc: Global, clients: &[ClientName]) -> Result<String, NoMemor
     listed(alloc, words.as_slice())
 }
 
-/// The word for a client, or for all clients.
+/// The name of a client, or `any client` for all clients.
 fn client_word(client: &ClientName) -> &str
     ensures { result.now ≡ spec.client_word client.now }
 {
@@ -73,7 +73,7 @@ fn client_word(client: &ClientName) -> &str
     }
 }
 
-/// The operations of a rule, as a list of words.
+/// The operations of a rule, joined as in a sentence.
 fn ops_text(alloc: Global, ops: &[Op]) -> Result<String, NoMemory>
     ensures { IfOk result (λ text. string_bytes text ≡ listed_words (map op_name ops.now)) }
 {
@@ -105,7 +105,7 @@ fn kind_clause(alloc: Global, rule: &Rule, kind: Kind) -> Result<String, NoMemor
     Ok([kind.name(), target.as_str(), ": ", paths.as_str()].concat(alloc)?)
 }
 
-/// The words for a rule's target on resources of a kind. Empty if the rule has no target.
+/// The text ` where ` and the rule's target on resources of a kind. Empty if the rule has no target.
 fn target_words(alloc: Global, rule: &Rule, kind: Kind) -> Result<String, NoMemory>
     ensures { IfOk result (λ text. string_bytes text ≡ spec.target_words rule.now kind) }
 {
@@ -125,7 +125,7 @@ fn target_on(targets: &[Target], kind: Kind) -> Option<&Target>
     targets.iter().find(|target| kind == target.kind())
 }
 
-/// The paths of a rule, as a list of words.
+/// The paths of a rule, joined as in a sentence.
 fn paths_text(alloc: Global, paths: &[PolicyPath]) -> Result<String, NoMemory>
     ensures { IfOk result (λ text. string_bytes text
         ≡ listed_words (map spec.path_word paths.now)) }
@@ -137,7 +137,7 @@ fn paths_text(alloc: Global, paths: &[PolicyPath]) -> Result<String, NoMemory>
     listed(alloc, words.as_slice())
 }
 
-/// The word for a path.
+/// The text of a path as in policy files, or `everything` for all paths.
 fn path_word(alloc: Global, path: PolicyPath) -> Result<String, NoMemory>
     ensures { IfOk result (λ text. string_bytes text ≡ spec.path_word path) }
 {

@@ -40,7 +40,7 @@ fn literal_text(alloc: Global, literal: &Literal) -> Result<String, NoMemory>
     Ok(value.to_string(alloc)?)
 }
 
-/// Appends a path as it was written. On an error `text` may have a part of it.
+/// Appends a path as it was written. On an error `text` may have a part of the path.
 fn push_path(path: &AttributePath, text: &mut String) -> Result<(), NoMemory>
     ensures { OnOk result (string_bytes text.new ≡ string_bytes text.old
         ++ spec.path_words path.now) }
@@ -57,7 +57,8 @@ fn push_path(path: &AttributePath, text: &mut String) -> Result<(), NoMemory>
     Ok(())
 }
 
-/// Appends a comparison. On an error `text` may have a part of it.
+/// Appends a comparison, such as `userType eq "Contractor"`. On an error `text` may have a part of the
+/// comparison.
 fn push_comparison(
     alloc: Global,
     path: &AttributePath,
@@ -103,7 +104,8 @@ fn push_if(needs: bool, mark: &str, text: &mut String) -> Result<(), NoMemory>
     Ok(())
 }
 
-/// Appends a tree, with brackets where the nesting needs them. On an error `text` may have a part of it.
+/// Appends a filter, with brackets where the nesting needs them. On an error `text` may have a part of the
+/// filter.
 fn push_tree(alloc: Global, node: &Node, text: &mut String) -> Result<(), NoMemory>
     ensures { OnOk result (string_bytes text.new ≡ string_bytes text.old
         ++ spec.tree_text (view node.now)) }

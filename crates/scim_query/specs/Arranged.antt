@@ -8,7 +8,7 @@ use Rattle.scim_query.specs.declared.queries.Page.{Page}
 use Rattle.scim_query.specs.Order.{part_cmp}
 use Rattle.scim_query.specs.Pages.{matching, slice_of, first_position, IsPage}
 
--- the list in order with x inserted before the first element that it is less than
+-- the list with x inserted before the first element that is greater than x
 abbrev pub placed : {X : Type 0} → (X → X → Bool) → X → List X → List X
 placed lt x [] = x ∷ []
 placed lt x (y ∷ ys) = cond (lt x y) (x ∷ y ∷ ys) (y ∷ placed lt x ys)
@@ -17,7 +17,7 @@ placed lt x (y ∷ ys) = cond (lt x y) (x ∷ y ∷ ys) (y ∷ placed lt x ys)
 abbrev pub before : Query → Content → Content → Bool
 before query p q = is_lt (part_cmp query.sort_by query.descending p q)
 
--- the sorted list `done` with each of the other parts inserted in its place
+-- the sorted list `done` with the parts of the second list inserted in order, one by one
 abbrev pub with_placed : Query → List Content → List Content → List Content
 with_placed query done [] = done
 with_placed query done (p ∷ ps) = with_placed query (placed (before query) p done) ps
@@ -41,6 +41,6 @@ pub record IsArranged (view : List Content) (query : Query) (page : Page) : Type
   pub start : page.start ≡ first_position query.start
   pub items : page.items.items ≡ slice_of query.start query.count (arranged query view)
 
--- a page is the query's page of a view exactly if it is arranged
+-- a page is the query's page of a view, as in `IsPage`, exactly if `IsArranged` is true of the page
 abbrev pub PagesAreArranged : Type 0
 PagesAreArranged = (view : List Content) (query : Query) (page : Page) → IsPage view query page ↔ IsArranged view query page

@@ -18,16 +18,17 @@ abbrev pub atom_of : Leaf → Option Row → Option Atom
 atom_of l None = None
 atom_of l (Some r) = atom_in l r.fields
 
--- an atom as it is compared: a text is case-folded unless its leaf is caseExact (RFC 7643 section 2.2)
+-- an atom in the form used for comparison: a text is case-folded unless its leaf is caseExact
+-- (RFC 7643 section 2.2)
 abbrev pub compared : Leaf → Atom → Atom
 compared l (Text t) = Text (cased (is_case_exact l) t)
 compared l a = a
 
--- the sort key of rows by a leaf, where a single-valued attribute counts as one value
+-- the sort key at a leaf for a part with these rows; a single-valued attribute counts as one value
 abbrev pub sort_key : Leaf → List Row → Option Atom
 sort_key l rs = option_map (compared l) (atom_of l (sorting_value (values (unit_of l) rs)))
 
--- the sort key of rows by a leaf; None if there is no leaf
+-- the sort key at a leaf for a part with these rows; None if there is no leaf
 abbrev pub key_by : Option Leaf → List Row → Option Atom
 key_by None rs = None
 key_by (Some l) rs = sort_key l rs

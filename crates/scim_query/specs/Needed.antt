@@ -11,7 +11,7 @@ use Rattle.scim_filter.specs.Relation.{stands}
 use Rattle.scim_filter.specs.Truth.{some_atom}
 use Rattle.scim_query.specs.Pages.{is_match}
 
--- whether rows have the text at the leaf by the comparison `eq` (RFC 7644 section 3.4.2.2)
+-- whether some atom of the rows at the leaf equals the text, as `eq` compares (RFC 7644 section 3.4.2.2)
 abbrev pub has_text : Leaf → List ℕ → List Row → Bool
 has_text leaf text rs = some_atom (λ a. stands (is_case_exact leaf) Eq a (Text text)) leaf rs
 

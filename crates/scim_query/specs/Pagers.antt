@@ -16,7 +16,7 @@ use Rattle.scim_query.specs.Pages.{matching, IsInOrder, slice_of}
 abbrev pub query_of : Pager → Bor Query
 query_of pager = pager.query
 
--- a part with its sort key by the leaf
+-- a part with its sort key at the leaf
 abbrev pub keyed : Option Leaf → Content → KeptPart
 keyed sort_by p = record { key = key_by sort_by (rows p); part = p }
 

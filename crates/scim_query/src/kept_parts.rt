@@ -21,7 +21,7 @@ pub(crate) struct KeptPart {
     pub(crate) part: Part,
 }
 
-/// Whether a part with this key and id comes before a held part.
+/// Whether a part with this key and id comes before the held part `other`.
 fn comes_before(descending: bool, key: &Option<Atom>, id: Id, other: &KeptPart) -> bool
     ensures { result ≡ is_lt (rank_cmp descending (key.now, id) (code.kept_rank other.now)) }
 {
@@ -41,7 +41,7 @@ fn room_of(query: &Query) -> usize
 }
 
 /// Returns where to insert a part with this key and id among the held parts, which are in order.
-/// `None` if it comes after the end of the page.
+/// `None` if the part comes after the end of the page.
 fn place_in_order(held: &[KeptPart], query: &Query, key: &Option<Atom>, id: Id) -> Option<usize>
     ensures inside { IfSome result (λ place. place ≤ length held.now) }
     ensures place { (part : _) → code.kept_rank part ≡ (key.now, id)

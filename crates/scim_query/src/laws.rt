@@ -3,7 +3,7 @@ ghost use Rattle.scim_query.specs.Pages.{QueriesHaveOnePage};
 ghost use Rattle.scim_query.specs.Arranged.{PagesAreArranged};
 
 /// A query has exactly one page of a list, even if some ids are equal.
-/// Any two pages of it have the same total, the same start, and the same items in the same order.
+/// Any two pages of the list for the query have the same total, start, and items in the same order.
 pub fn queries_have_one_page()
     ensures { QueriesHaveOnePage }
 {}

@@ -40,8 +40,8 @@ fn filter_attributes(alloc: Global, filter: &Option<Filter>) -> Result<Vec<Attri
 
 impl Query {
     /// Returns the attributes that the filter names, in the order of its text, then the attribute of the
-    /// sort key. If `groups` isn't among them, a visible part matches and sorts the same if only its cells of
-    /// these attributes are kept.
+    /// sort key. If `groups` isn't among these attributes, then dropping the cells of all other attributes
+    /// from a visible part changes neither whether the part matches nor its sort key.
     pub fn attributes(&self, alloc: Global) -> Result<Vec<Attribute>, NoMemory>
         ensures { IfOk result (λ v. v.items ≡ spec.attributes_of self.now) }
     {

@@ -26,7 +26,8 @@ pub struct Pager<'q> {
     query: &'q Query,
     /// The number of matching parts so far.
     total: usize,
-    /// With a sort key, the first matching parts in the query's order; without one, the parts of the page.
+    /// With a sort key, the first matching parts so far, in the query's order; without one, the parts so far
+    /// that are on the page.
     held: Vec<KeptPart>,
 }
 

@@ -35,7 +35,7 @@ fn is_asked_of_none(meant: Meant) -> bool
     }
 }
 
-/// Whether the client may see a cell of the attribute that a path names, alone or with a sub-attribute.
+/// Whether the client may see some cell of the attribute in a path, which may also name a sub-attribute.
 /// Always true for `groups`, whose values are computed.
 fn may_be_seen(meant: Meant, kind: Kind, decisions: &Decisions) -> bool
     ensures { result ≡ false → spec.StaysUnseen meant kind (decision decisions.now) }
@@ -48,8 +48,8 @@ fn may_be_seen(meant: Meant, kind: Kind, decisions: &Decisions) -> bool
     }
 }
 
-/// Whether the filter can match the visible part of some resource of the kind. If false, it matches none;
-/// if true, it may still match none.
+/// Whether the filter can match the visible part of some resource of the kind. If false, the filter
+/// matches none; if true, it may still match none.
 fn may_hold(node: &Node, kind: Kind, decisions: &Decisions) -> bool
     ensures { result ≡ false → spec.NeverHolds (truth (view node.now)) kind
         (decision decisions.now) }

@@ -58,7 +58,7 @@ pub(crate) fn first_position(start: usize) -> usize
 }
 
 /// Returns the query's page of a list of parts.
-/// It has the matching parts in order, from `start` on, at most `count`.
+/// The page has at most `count` of the matching parts in order, from position `start` on.
 ///
 /// Parts are ordered by their atom at the sort leaf. For a multi-valued attribute, this is the atom of the
 /// first value marked as primary, or else of the first value. Texts are case-folded unless the leaf is

@@ -78,7 +78,7 @@ fn sorting_value<'r, T: RowTest>(values: &'r [Row], test: &T) -> Option<&'r Row>
     }
 }
 
-/// Copies an atom as it is compared: a text is case-folded unless its leaf is caseExact.
+/// Copies an atom in the form used for comparison: a text is case-folded unless its leaf is caseExact.
 fn compared(alloc: Global, leaf: Leaf, atom: &Atom) -> Result<Atom, NoMemory>
     ensures { IfOk result (λ key. key ≡ spec.compared leaf atom.now) }
 {

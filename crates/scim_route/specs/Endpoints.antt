@@ -10,7 +10,7 @@ use Rattle.scim_route.specs.declared.endpoints.DiscoveryPage.TheVariants.{Servic
 use Rattle.scim_route.specs.Targets.{is_slash}
 
 -- an endpoint: one that this server doesn't support, a discovery page, the resources of a kind, the search of
--- the resources of a kind, or one resource of a kind with the text in the path where its id belongs
+-- the resources of a kind, or one resource of a kind with the text in the path that should be its id
 pub data Place : Type 0 where
   unsupported : Place
   page : DiscoveryPage → Place
@@ -38,12 +38,12 @@ other_at_top name =
     else if is name (codes "Schemas") then Some (page Schemas)
     else None
 
--- the endpoint of the resources of `kind`, or `other` if there is no kind
+-- the endpoint of all resources of the given kind, or `other` if no kind is given
 abbrev pub collection_or : Option Place → Option Kind → Option Place
 collection_or other (Some kind) = Some (collection kind)
 collection_or other None = other
 
--- the endpoint at `/{name}`; `None` if there is none
+-- the endpoint at `/{name}`; `None` if there is no endpoint
 abbrev pub at_top : List ℕ → Option Place
 at_top name = collection_or (other_at_top name) (kind_below name)
 
@@ -59,17 +59,17 @@ other_below name text =
     else if is name (codes "Schemas") then option_map (λ schema. page (Schema schema)) (schema_named text)
     else None
 
--- the endpoint at `text` below the resources of `kind`, or `other` if there is no kind
+-- the endpoint at `/Users/{text}` or `/Groups/{text}`, by the given kind; `other` if no kind is given
 abbrev pub among_or : Option Place → Option Kind → List ℕ → Option Place
 among_or other (Some kind) text = Some (among kind text)
 among_or other None text = other
 
--- the endpoint at `/{name}/{text}`; `None` if there is none, if the text is empty, or if it contains a slash
+-- the endpoint at `/{name}/{text}`; `None` if `text` is empty or contains a slash, or if there is no endpoint
 abbrev pub below : List ℕ → List ℕ → Option Place
 below name [] = None
 below name (b ∷ text) = if list_any is_slash (b ∷ text) then None else among_or (other_below name (b ∷ text)) (kind_below name) (b ∷ text)
 
--- the endpoint of a path that is given without its leading slash; `None` if there is none
+-- the endpoint of a path; `None` if there is no endpoint; the path is given without its leading slash
 abbrev pub in_segments : List ℕ → Option Place
 in_segments segments =
     if position_or_len is_slash segments == length segments then at_top segments
@@ -81,8 +81,8 @@ without_last_slash [] = []
 without_last_slash (b ∷ []) = if is_slash b then [] else b ∷ []
 without_last_slash (b ∷ c ∷ rest) = b ∷ without_last_slash (c ∷ rest)
 
--- the endpoint of a path; `None` if there is none; one slash at the end is ignored, unless it is the leading
--- slash
+-- the endpoint of a path; `None` if there is no endpoint; one slash at the end is ignored, unless it is the
+-- leading slash
 abbrev pub place_of : List ℕ → Option Place
 place_of [] = None
 place_of (b ∷ rest) = if is_slash b then in_segments (without_last_slash rest) else None

@@ -22,7 +22,8 @@ pairs_of query = map decoded_pair (raw_pairs (unwrap_or query []))
 abbrev pub first_named : List ℕ → List (List ℕ × List ℕ) → Option (List ℕ)
 first_named name pairs = option_map (λ pair. pair.1) (find (λ pair. is_same_name pair.0 name) pairs)
 
--- the parameters that these pairs of names and values give (RFC 7644 sections 3.4.2 and 3.9)
+-- the parameters, each with its first value in these pairs of names and values (RFC 7644 sections 3.4.2 and
+-- 3.9)
 abbrev pub parameters_in : List (List ℕ × List ℕ) → Parameters
 parameters_in pairs = record {
   attributes = first_named (codes "attributes") pairs;

@@ -1,4 +1,4 @@
--- The request that a method and a target name (RFC 7644 section 3.2).
+-- What a request is for, according to its method and target (RFC 7644 section 3.2).
 use Rattle.std.specs.Prelude.{◌≡◌, ℕ, List, codes, Option, None, Some, ok_or, option_and_then, option_copied, Result, Ok, Err, if◌then◌else◌}
 use Rattle.scim_schema.specs.declared.Kind.{Kind}
 use Rattle.scim_schema.specs.declared.Op.{Op}
@@ -18,14 +18,14 @@ use Rattle.scim_route.specs.declared.routes.Found.TheVariants.{Discovery as Foun
 use Rattle.scim_route.specs.Targets.{path_of, decoded}
 use Rattle.scim_route.specs.Endpoints.{Place, unsupported, page, collection, search, resource, place_of, is}
 
--- a request: for a discovery page, or to the resources of a kind, with its form and, for one resource, the
--- text in the path where its id belongs
+-- what a request is for: a discovery page; or the resources of a kind or one of them, with the form of the
+-- request and, for one resource, the text in the path that should be its id
 pub data Named : Type 0 where
   a_page : DiscoveryPage → Named
   a_route : Form → Kind → Option (List ℕ) → Named
 
--- the form of a request with this method to an endpoint with these methods; `None` if the endpoint doesn't
--- allow the method (RFC 7644 section 3.2)
+-- the form of a request with this method to an endpoint that allows these methods; `None` if the endpoint
+-- doesn't allow the method (RFC 7644 section 3.2)
 abbrev pub form_of : Methods → List ℕ → Option Form
 form_of Collection method =
     if is method (codes "GET") then Some ListGet
@@ -50,17 +50,17 @@ op_of Replace = Modify
 op_of Patch = Modify
 op_of Remove = Delete
 
--- the form of a request with this method to an endpoint with these methods; the error `BadMethod`, with these
--- methods, if the endpoint doesn't allow the method
+-- the form of a request with this method to an endpoint that allows `methods`; the error `BadMethod`, with
+-- `methods`, if the endpoint doesn't allow the method
 abbrev pub asked : Methods → List ℕ → Result Form Refusal
 asked methods method = ok_or (form_of methods method) (BadMethod methods)
 
--- the request for the page, or the refusal of its method
+-- the request for the page if its method is allowed; otherwise the refusal
 abbrev pub named_page : DiscoveryPage → Result Form Refusal → Result Named Refusal
 named_page p (Ok form) = Ok (a_page p)
 named_page p (Err refusal) = Err refusal
 
--- the request to the resources of a kind, or the refusal of its method
+-- the request to the resources of a kind if its method is allowed; otherwise the refusal
 abbrev pub named_route : Kind → Option (List ℕ) → Result Form Refusal → Result Named Refusal
 named_route kind text (Ok form) = Ok (a_route form kind text)
 named_route kind text (Err refusal) = Err refusal
@@ -73,22 +73,25 @@ named_at method (collection kind) = named_route kind None (asked Collection meth
 named_at method (search kind) = named_route kind None (asked Search method)
 named_at method (resource kind text) = named_route kind (Some text) (asked Resource method)
 
--- the request that a method makes to an endpoint, or its refusal; the error `NoRoute` if there is no endpoint
+-- the request that a method makes to an endpoint, or the refusal of the request; the error `NoRoute` if no
+-- endpoint is given
 abbrev pub named_at_any : List ℕ → Option Place → Result Named Refusal
 named_at_any method None = Err NoRoute
 named_at_any method (Some place) = named_at method place
 
--- the request that a method and a target name: the target's path is decoded, and its endpoint is looked up
+-- what a request with this method and this target is for, or its refusal; the target's path is decoded to
+-- find the endpoint
 abbrev pub named : List ℕ → List ℕ → Result Named Refusal
 named method target = named_at_any method (option_and_then place_of (decoded (path_of target)))
 
--- the id that the text spells; `None` if there is no text, or if the text isn't an id
+-- the id is the one that the text spells; it is `None` if there is no text, or if the text isn't an id
 abbrev pub IsIdOf : Option (List ℕ) → Option Id → Type 0
 IsIdOf None id = id ≡ None
 IsIdOf (Some text) None = ¬ (IsIdText text)
 IsIdOf (Some text) (Some id) = IsId id × (text ≡ id_text id)
 
--- the route has this form and its operation, this kind, the id that the text spells, and this query
+-- the route has this form, the operation of the form, this kind, this query, and the id that `text` spells;
+-- the route's id is `None` if `text` doesn't spell an id
 pub record Says (form : Form) (kind : Kind) (text : Option (List ℕ)) (query : Option (List ℕ)) (route : Route) : Type 0 where
   pub form_is : route.form ≡ form
   pub op_is : route.op ≡ op_of form

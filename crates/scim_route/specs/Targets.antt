@@ -38,8 +38,8 @@ abbrev pub or_root : List ℕ → List ℕ
 or_root [] = codes "/"
 or_root (b ∷ path) = b ∷ path
 
--- the path of a target, not decoded: the part of its path and query before the first `?`; in absolute form,
--- an empty path becomes `/`
+-- the path of a target, still percent-encoded: the part of `path_and_query` before the first `?`; in absolute
+-- form, an empty path becomes `/`
 abbrev pub path_of : List ℕ → List ℕ
 path_of target =
     if is_absolute target then or_root (before_first is_question_mark (behind_authority target))

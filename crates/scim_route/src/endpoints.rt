@@ -33,14 +33,15 @@ pub(crate) enum Endpoint<'p> {
     Discovery(DiscoveryPage),
     /// The resources of a kind.
     Collection(Kind),
-    /// The search of the resources of a kind.
+    /// The search of the resources of a kind: `/Users/.search` or `/Groups/.search`.
     Search(Kind),
-    /// One resource of a kind, and the text in the path where its id belongs.
+    /// One resource of a kind, and the text after `/Users/` or `/Groups/`, which should be its id.
     Resource(Kind, &'p str),
 }
 
-/// Returns the endpoint of a route. `text` is the part of the path after the first segment and its slash; it
-/// names a resource type, a schema or a resource. `None` if there is no such resource type or schema.
+/// Returns the endpoint that a route leads to. `text` is the part of the path after the first segment and its
+/// slash. On some routes it names a resource type, a schema or a resource. `None` if it should name a
+/// resource type or a schema, but doesn't.
 fn endpoint_at(leads: Leads, text: &str) -> Option<Endpoint<'_>>
     ensures { option_map place_at result ≡ led leads text.now }
 {
@@ -67,7 +68,8 @@ fn behind_slash(text: &str) -> &str
     }
 }
 
-/// Returns the endpoint of a path that is given without its leading slash; `None` if there is no endpoint.
+/// Returns the endpoint of a path; `None` if there is no endpoint. The path is given without its leading
+/// slash.
 fn in_segments<'p>(routes: &Routes, segments: &'p str) -> Option<Endpoint<'p>>
     ensures { option_map place_at result ≡ spec.in_segments segments.now }
 {

@@ -9,8 +9,8 @@ use scim_cell::Text;
 use scim_text::{NoMemory, same_name};
 use std::alloc::Global;
 
-/// The query parameters that SCIM defines (RFC 7644 sections 3.4.2 and 3.9). Each has its first value in the
-/// query string, or `None` if the query string doesn't give it.
+/// The query parameters that SCIM defines (RFC 7644 sections 3.4.2 and 3.9). Each field has the parameter's
+/// first value in the query string, or `None` if the query string doesn't have the parameter.
 pub struct Parameters {
     /// `attributes`
     pub attributes: Option<Text>,
@@ -49,7 +49,8 @@ fn decoded_text(alloc: Global, bytes: &[u8]) -> Result<Text, NoMemory>
     Ok(Text::new(decode(alloc, bytes)?.into_owned(alloc)?))
 }
 
-/// Stores the decoded value in `held` if `held` has no value yet and `name` is `parameter` in any ASCII case.
+/// Stores the decoded value in `held` if `held` has no value yet and `name` equals `parameter`, ignoring
+/// ASCII case.
 fn take(
     alloc: Global,
     held: &mut Option<Text>,
@@ -82,8 +83,8 @@ impl Parameters {
         }
     }
 
-    /// Stores the decoded value of a pair for the parameter that its name selects, unless that parameter
-    /// already has a value. Ignores other names. On an error, no value is stored.
+    /// Decodes a name and a value. Stores the value if the name is that of a parameter without a value.
+    /// Ignores all other names. On an error, no value is stored.
     fn take_pair(&mut self, alloc: Global, name: &[u8], value: &[u8]) -> Result<(), NoMemory>
         ensures { OnOk result (self.new
             ≡ with_pair (spec.decoded_pair (name.now, value.now)) self.old) }

@@ -14,7 +14,7 @@ use scim_text::Failed;
 use std::alloc::Global;
 use std::borrow::CowStr;
 
-/// The path and the query of a request target, with their percent-encoding not decoded.
+/// The path and the query of a request target, both still percent-encoded.
 #[derive(Clone, Copy)]
 pub(crate) struct Target<'t> {
     pub(crate) path: &'t [u8],
@@ -41,7 +41,8 @@ fn end_of_path(bytes: &[u8]) -> usize
     bytes.iter().position(|b| *b == b'?').unwrap_or(bytes.len())
 }
 
-/// Returns the part after the authority of a target in absolute form; `None` for a target in another form.
+/// Returns the part of the target after the authority if the target is in absolute form (`http://`);
+/// otherwise `None`.
 fn behind_authority(target: &[u8]) -> Option<&[u8]>
     ensures { option_copied result ≡ spec.behind_authority_of target.now }
 {

@@ -64,8 +64,8 @@ impl Drop for Routes {
     }
 }
 
-/// Adds a route to the router. Fails only if memory runs out, since the routes are valid and differ from
-/// each other.
+/// Adds a route to the router. Reports every error as `NoMemory`: the routes in `ROUTES` are valid and differ
+/// from each other, so nothing else can fail.
 fn enter(router: &mut Router<Leads>, path: &str, leads: Leads) -> Result<(), NoMemory>
     ensures { OnOk result (rename (λ r. r.value) router.new
         ≡ spec.with_path path.now leads (rename (λ r. r.value) router.old)) }
@@ -96,8 +96,8 @@ impl Routes {
         })
     }
 
-    /// Returns what the route that matches the path leads to; `None` if no route matches. The path has no
-    /// leading slash.
+    /// Finds the route that matches the path, and returns what this route leads to; `None` if no route
+    /// matches. The path has no leading slash.
     pub(crate) fn leads(&self, path: &str) -> Option<Leads>
         ensures { result ≡ first spec.routes path.now }
     {

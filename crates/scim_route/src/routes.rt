@@ -64,7 +64,7 @@ pub struct Route<'t> {
     pub query: Option<&'t [u8]>,
 }
 
-/// What a request is for, as its method and target tell.
+/// What a request is for, according to its method and target.
 #[derive(Clone, Copy, PartialEq, Eq)]
 pub enum Found<'t> {
     /// A page about the server itself (RFC 7644 section 4), and the part of the target after the
@@ -74,7 +74,7 @@ pub enum Found<'t> {
     Resource(Route<'t>),
 }
 
-/// Returns the route with these values and the form's operation.
+/// Returns the route with these values. The operation is the one for `form`.
 fn route_of(form: Form, kind: Kind, id: Option<Id>, query: Option<&[u8]>) -> Route<'_>
     ensures { (text : Option (List ℕ)) → IsIdOf text id
         → Says form kind text (option_copied query.entry) result }
@@ -89,8 +89,8 @@ fn route_of(form: Form, kind: Kind, id: Option<Id>, query: Option<&[u8]>) -> Rou
     }
 }
 
-/// Returns the form of a request with this method to an endpoint with these methods; `None` if the endpoint
-/// doesn't allow the method.
+/// Returns the form of a request with `method` to an endpoint that allows `methods`; `None` if the endpoint
+/// doesn't allow `method`.
 fn form_of(methods: Methods, method: &[u8]) -> Option<Form>
     ensures { result ≡ spec.form_of methods method.now }
 {
@@ -118,8 +118,8 @@ fn form_of(methods: Methods, method: &[u8]) -> Option<Form>
     }
 }
 
-/// Returns the form of a request with this method to an endpoint with these methods. Fails with `BadMethod`
-/// if the endpoint doesn't allow the method.
+/// Returns the form of a request with `method` to an endpoint that allows `methods`. Fails with `BadMethod`
+/// if the endpoint doesn't allow `method`.
 fn asked(methods: Methods, method: &[u8]) -> Result<Form, Refusal>
     ensures { result ≡ spec.asked methods method.now }
 {
@@ -160,14 +160,14 @@ fn found_at<'t>(
 impl Routes {
     /// Finds the endpoint of SCIM that a request's method and target name (RFC 7644 section 3.2).
     ///
-    /// The target is in origin form, or in absolute form with `http://`. Its path ends before the
-    /// first `?`. The percent-encoding of the path is decoded, and then one slash at its end is ignored.
-    /// The id of the route is `None` if the path names a resource by a text that isn't an id in
-    /// hyphenated form and lower case. No resource has such an id.
+    /// The target is in origin form, or in absolute form with `http://`. Its path ends before the first `?`.
+    /// The percent-encoding of the path is decoded, and then one slash at its end is ignored. If the text in
+    /// the path where an id belongs isn't an id in hyphenated form and lower case, the id of the route is
+    /// `None`.
     ///
     /// Fails with `NoRoute` if there is no such endpoint. Fails with `NotSupported` for an endpoint of SCIM
-    /// that this server doesn't support (RFC 7644 sections 3.4.3, 3.7 and 3.11). Fails with `BadMethod`,
-    /// which has the methods that the endpoint allows, if it doesn't allow the method.
+    /// that this server doesn't support (RFC 7644 sections 3.4.3, 3.7 and 3.11). Fails with `BadMethod` if
+    /// the endpoint doesn't allow the method; the error has the methods that it allows.
     pub fn find<'t>(
         &self,
         alloc: Global,

@@ -13,7 +13,7 @@ use scim_value::Part;
 use std::alloc::Global;
 use std::ops::Range;
 
-/// Reads the path of a leaf, such as `emails.value`. Fails with `NoSuchLeaf` if it isn't one.
+/// Reads the path of a leaf, such as `emails.value`. Fails with `NoSuchLeaf` if the path doesn't name a leaf.
 ///
 /// The attribute may be one of a user or of a group. Any attribute may have the sub-attributes of `name`, so
 /// `emails.familyName` is accepted, though no kind has this leaf.
@@ -47,7 +47,7 @@ pub fn read_cells(alloc: Global, text: &str) -> Result<Vec<Cell>, SampleFault> {
     Ok(cells)
 }
 
-/// Reads `ATTRIBUTE[POSITIONS].SUB=VALUE` and appends its cells, one at each position.
+/// Reads `ATTRIBUTE[POSITIONS].SUB=VALUE`, and appends one cell for each position to `cells`.
 fn push_cells(alloc: Global, cells: &mut Vec<Cell>, text: &str) -> Result<(), SampleFault> {
     let Some((path, value)) = text.split_once('=') else {
         return Err(SampleFault::NotACell);
@@ -83,7 +83,7 @@ fn read_positions(text: &str) -> Result<Range<usize>, SampleFault> {
     }
 }
 
-/// Reads a number in decimal digits. Fails with `NotACell` if it isn't one.
+/// Reads a number in decimal digits. Fails with `NotACell` if the text isn't a number.
 fn read_number(text: &str) -> Result<usize, SampleFault> {
     match text.parse::<usize>() {
         Ok(number) => Ok(number),
@@ -172,7 +172,8 @@ fn push_cell(alloc: Global, cell: &Cell, text: &mut String) -> Result<(), NoMemo
     push_atom(alloc, &cell.atom, text)
 }
 
-/// Returns the cells of a part, in order of place, in the form that [`read_cells`] reads.
+/// Returns the cells of a part as text, in the form that [`read_cells`] reads and in the order of
+/// [`Part::cells`].
 pub fn part_text(alloc: Global, part: &Part) -> Result<String, NoMemory> {
     let cells = part.cells(alloc)?;
     let mut text = String::new(alloc);

@@ -84,7 +84,7 @@ pub fn sample_users(alloc: Global) -> Result<Vec<Resource>, SampleFault> {
     samples(alloc, &["alice", "bob", "straße"])
 }
 
-/// Returns the sample groups, which are only the team.
+/// Returns the sample groups: only the team.
 pub fn sample_groups(alloc: Global) -> Result<Vec<Resource>, SampleFault> {
     samples(alloc, &["team"])
 }

@@ -18,7 +18,7 @@ type_name Reference = codes "reference"
 type_name Binary = codes "binary"
 type_name Complex = codes "complex"
 
--- the name of a mutability
+-- the name of a value of the characteristic `mutability`
 abbrev pub mutability_name : Mutability → List ℕ
 mutability_name ReadOnly = codes "readOnly"
 mutability_name ReadWrite = codes "readWrite"
@@ -32,7 +32,7 @@ returned_name Never = codes "never"
 returned_name Default = codes "default"
 returned_name Request = codes "request"
 
--- the name of a uniqueness
+-- the name of a value of the characteristic `uniqueness`
 abbrev pub uniqueness_name : Uniqueness → List ℕ
 uniqueness_name NotUnique = codes "none"
 uniqueness_name Server = codes "server"

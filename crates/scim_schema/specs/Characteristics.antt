@@ -86,7 +86,8 @@ abbrev pub common_sub_attribute : SubAttribute → Characteristics
 common_sub_attribute Primary = boolean
 common_sub_attribute _ = plain
 
--- the characteristics of a sub-attribute of a link to a resource: `value` is its id, `$ref` its location
+-- the characteristics of a sub-attribute of a link to a resource: `value` is the id of the resource, and
+-- `$ref` is the location
 abbrev pub linked_sub_attribute : SubAttribute → Characteristics
 linked_sub_attribute Value = case_exact
 linked_sub_attribute Reference = reference
@@ -139,11 +140,11 @@ characteristics_at kind a (Some b) = sub_attribute_characteristics a b
 abbrev pub characteristics_of : Kind → Leaf → Characteristics
 characteristics_of kind leaf = characteristics_at kind leaf.attribute leaf.sub_attribute
 
--- whether comparisons of the leaf's texts are case-sensitive (RFC 7643 section 2.2); it doesn't depend on the
--- kind
+-- whether comparisons of texts at the leaf are case-sensitive (RFC 7643 section 2.2); the answer doesn't
+-- depend on the kind of resource
 abbrev pub is_case_exact : Leaf → Bool
 is_case_exact leaf = (characteristics_of User leaf).case_exact
 
--- whether an attribute holds a list of values; it doesn't depend on the kind
+-- whether an attribute holds a list of values; the answer doesn't depend on the kind of resource
 abbrev pub is_multi_valued : Attribute → Bool
 is_multi_valued a = (attribute_characteristics User a).multi_valued

@@ -40,19 +40,19 @@ key_text (Of a) = attribute_name a
 key_text Schemas = schemas_name
 key_text (Extension s) = urn s
 
--- the keys of a user and of a group in a text for clients, in byte order
+-- the keys of the outermost object of a resource of a kind, in the JSON text for clients, in byte order
 abbrev pub shown_keys : Kind → List JsonKey
 shown_keys User =
     Of Active ∷ Of Addresses ∷ Of DisplayName ∷ Of Emails ∷ Of Entitlements ∷ Of ExternalId ∷ Of Groups ∷ Of Id ∷ Of Ims ∷ Of Locale ∷ Of Meta ∷ Of Name ∷ Of NickName ∷ Of Password ∷ Of PhoneNumbers ∷ Of Photos ∷ Of PreferredLanguage ∷ Of ProfileUrl ∷ Of Roles ∷ Schemas ∷ Of Timezone ∷ Of Title ∷ Extension EnterpriseUser ∷ Of UserName ∷ Of UserType ∷ Of X509Certificates ∷ []
 shown_keys Group = Of DisplayName ∷ Of ExternalId ∷ Of Id ∷ Of Members ∷ Of Meta ∷ Schemas ∷ []
 
--- whether a key is stored; the server computes `schemas` and `groups`
+-- whether the JSON text for the store may have a key: not `schemas` or `groups`, which the server computes
 abbrev pub is_stored_key : JsonKey → Bool
 is_stored_key Schemas = false
 is_stored_key (Of Groups) = false
 is_stored_key _ = true
 
--- the keys that the outermost object of a resource of a kind may have, in byte order
+-- the keys that the outermost JSON object of a resource of a kind may have, in byte order
 unfoldable pub keys : JsonForm → Kind → List JsonKey
 keys Shown kind = shown_keys kind
 keys Stored kind = filter is_stored_key (shown_keys kind)
@@ -70,8 +70,8 @@ ordered_standard_sub_attributes = Display ∷ Primary ∷ TypeName ∷ Value ∷
 abbrev pub ordered_linked_sub_attributes : List SubAttribute
 ordered_linked_sub_attributes = Reference ∷ Display ∷ TypeName ∷ Value ∷ []
 
--- the sub-attributes of `meta`, in byte order of their names; `location` is computed from kind and id and
--- isn't stored
+-- the sub-attributes of `meta`, in byte order of their names; `location` isn't stored, because the server
+-- computes it from the kind and the id
 abbrev pub ordered_meta_sub_attributes : JsonForm → List SubAttribute
 ordered_meta_sub_attributes Shown = Created ∷ LastModified ∷ Location ∷ ResourceType ∷ []
 ordered_meta_sub_attributes Stored = Created ∷ LastModified ∷ ResourceType ∷ []
@@ -94,11 +94,11 @@ ordered_sub_attributes form Members = ordered_linked_sub_attributes
 ordered_sub_attributes form Meta = ordered_meta_sub_attributes form
 ordered_sub_attributes form _ = []
 
--- the form of a JSON value with these characteristics
+-- whether the JSON value of an attribute with these characteristics is simple, an object or an array
 abbrev pub shape_with : Characteristics → JsonShape
 shape_with c = if c.multi_valued then MultiValued else (if sameb the_attribute_type c.attribute_type ComplexType then Complex else Simple)
 
--- the form of the JSON value of an attribute
+-- whether the JSON value of an attribute is simple, an object or an array of objects
 unfoldable pub shape_of : Attribute → JsonShape
 shape_of a = shape_with (attribute_characteristics User a)
 
@@ -107,32 +107,33 @@ abbrev pub is_ascending : {K : Type 0} → (K → List ℕ) → List K → Bool
 is_ascending text [] = true
 is_ascending text (k ∷ ks) = list_all (λ l. is_lt (slice_cmp nat_cmp (text k) (text l))) ks && is_ascending text ks
 
--- the keys are in byte order of their texts, each once
+-- the keys are in byte order of their texts, without duplicates
 abbrev pub Ascends : {K : Type 0} → (K → List ℕ) → List K → Type 0
 Ascends text ks = is_ascending text ks ≡ true
 
--- the keys of the outermost object are in byte order, each once
+-- the keys of the outermost object are in byte order, without duplicates
 abbrev pub PartKeysAscend : Type 0
 PartKeysAscend = (form : JsonForm) (kind : Kind) → Ascends key_text (keys form kind)
 
--- the attributes of each extension are in byte order of their names, each once
+-- the attributes of each extension are in byte order of their names, without duplicates
 abbrev pub ExtensionKeysAscend : Type 0
 ExtensionKeysAscend = (schema : Schema) → Ascends attribute_name (extension_keys schema)
 
--- the sub-attributes of each attribute are in byte order of their names, each once
+-- the sub-attributes of each attribute are in byte order of their names, without duplicates
 abbrev pub SubAttributesAscend : Type 0
 SubAttributesAscend = (form : JsonForm) (a : Attribute) → Ascends sub_attribute_name (ordered_sub_attributes form a)
 
--- whether an attribute is under this key of the outermost object: its own name, or the URN of its extension
+-- whether the outermost object contains an attribute under this key: the key is the attribute's name, or the
+-- URN of the extension that defines the attribute
 abbrev pub stands_under : Attribute → JsonKey → Bool
 stands_under a (Of b) = is_none (extension_of a) && sameb the_attribute a b
 stands_under a Schemas = false
 stands_under a (Extension s) = option_eq (sameb the_schema) (extension_of a) (Some s) && list_any (sameb the_attribute a) (extension_keys s)
 
--- each attribute of a kind has a key in the text for clients
+-- each attribute of a kind has a key in the JSON text for clients
 abbrev pub AttributesHaveKeys : Type 0
 AttributesHaveKeys = (kind : Kind) → list_all (λ a. list_any (stands_under a) (keys Shown kind)) (attributes kind) ≡ true
 
--- in the text for clients, each sub-attribute is a key of the object of its attribute
+-- in the JSON text for clients, each sub-attribute is a key of its attribute's object
 abbrev pub SubAttributesHaveKeys : Type 0
 SubAttributesHaveKeys = (a : Attribute) → list_all (λ b. list_any (sameb the_sub_attribute b) (ordered_sub_attributes Shown a)) (sub_attributes a) ≡ true

@@ -9,7 +9,8 @@ use Rattle.scim_schema.specs.declared.characteristics.Mutability.TheVariants.{Re
 use Rattle.scim_schema.specs.contracts.characteristics.Mutability.{the_type as the_mutability}
 use Rattle.scim_schema.specs.Characteristics.{characteristics_at, characteristics_of}
 
--- whether a leaf, or a whole attribute if there is no sub-attribute, is read-only: no client may write it
+-- whether a leaf is read-only: no client may write it; without a sub-attribute, the answer is for the whole
+-- attribute
 abbrev pub is_read_only : Kind → Leaf → Bool
 is_read_only kind l = sameb the_mutability (characteristics_of kind l).mutability ReadOnly
 

@@ -1,4 +1,4 @@
--- The schemas and the attributes of each (RFC 7643 sections 3 and 8.7).
+-- The schemas and their attributes (RFC 7643 sections 3 and 8.7).
 use Rattle.std.specs.Prelude.{ℕ, Bool, List, [], ◌∷◌, codes, Option, None, Some, unwrap_or}
 use Rattle.scim_schema.specs.declared.Kind.{Kind}
 use Rattle.scim_schema.specs.declared.Kind.TheVariants.{User, Group}
@@ -19,7 +19,7 @@ urn EnterpriseUser = codes "urn:ietf:params:scim:schemas:extension:enterprise:2.
 abbrev pub schemas : List Schema
 schemas = UserSchema ∷ GroupSchema ∷ EnterpriseUser ∷ []
 
--- the core schema of a kind, which each resource of it has
+-- the core schema of a kind; every resource of the kind has this schema
 abbrev pub core_schema : Kind → Schema
 core_schema User = UserSchema
 core_schema Group = GroupSchema
@@ -29,7 +29,7 @@ abbrev pub extensions : Kind → List Schema
 extensions User = EnterpriseUser ∷ []
 extensions Group = []
 
--- the extension of an attribute, or None for an attribute of a core schema (RFC 7643 section 4.3)
+-- the extension that defines an attribute, or None if a core schema defines it (RFC 7643 section 4.3)
 abbrev pub extension_of : Attribute → Option Schema
 extension_of EmployeeNumber = Some EnterpriseUser
 extension_of CostCenter = Some EnterpriseUser
@@ -39,7 +39,7 @@ extension_of Department = Some EnterpriseUser
 extension_of Manager = Some EnterpriseUser
 extension_of _ = None
 
--- the schema of an attribute of a kind; `id`, `externalId` and `meta` belong to the core schema
+-- the schema that defines an attribute of a kind; `id`, `externalId` and `meta` belong to the core schema
 abbrev pub schema_of : Kind → Attribute → Schema
 schema_of kind a = unwrap_or (extension_of a) (core_schema kind)
 

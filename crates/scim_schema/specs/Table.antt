@@ -1,4 +1,4 @@
--- The attributes, sub-attributes and leaves of each kind, in the order of the table.
+-- The attributes, sub-attributes and leaves of each kind. Most other lists keep the order of this file.
 use Rattle.std.specs.Prelude.{List, [], ◌∷◌, ◌++◌, map, None, Some, Contains}
 use Rattle.std.specs.List.{flat_map}
 use Rattle.scim_schema.specs.declared.Kind.{Kind}
@@ -29,7 +29,7 @@ group_attributes = DisplayName ∷ Members ∷ []
 abbrev pub enterprise_attributes : List Attribute
 enterprise_attributes = EmployeeNumber ∷ CostCenter ∷ Organization ∷ Division ∷ Department ∷ Manager ∷ []
 
--- the attributes of a kind, in the order of the table
+-- all attributes of a kind
 abbrev pub attributes : Kind → List Attribute
 attributes User = common_attributes ++ single_user_attributes ++ multi_valued_user_attributes ++ enterprise_attributes ++ Meta ∷ []
 attributes Group = common_attributes ++ group_attributes ++ Meta ∷ []
@@ -38,8 +38,8 @@ attributes Group = common_attributes ++ group_attributes ++ Meta ∷ []
 abbrev pub standard_sub_attributes : List SubAttribute
 standard_sub_attributes = Value ∷ Display ∷ TypeName ∷ Primary ∷ []
 
--- the sub-attributes of an attribute, in the order of the table; empty for a simple one (RFC 7643 sections
--- 3.1, 4.1.1, 4.1.2, 4.2 and 4.3)
+-- the sub-attributes of an attribute; empty for a simple attribute (RFC 7643 sections 3.1, 4.1.1, 4.1.2, 4.2
+-- and 4.3)
 abbrev pub sub_attributes : Attribute → List SubAttribute
 sub_attributes Name = Formatted ∷ FamilyName ∷ GivenName ∷ MiddleName ∷ HonorificPrefix ∷ HonorificSuffix ∷ []
 sub_attributes Emails = standard_sub_attributes
@@ -62,7 +62,7 @@ abbrev pub leaves_with : Attribute → List SubAttribute → List Leaf
 leaves_with a [] = record { attribute = a; sub_attribute = None } ∷ []
 leaves_with a (s ∷ ss) = map (λ b. record { attribute = a; sub_attribute = Some b }) (s ∷ ss)
 
--- the leaves of a kind, in the order of the table, called leaf order
+-- the leaves of a kind, by attribute and then by sub-attribute; other comments call this order leaf order
 abbrev pub leaves : Kind → List Leaf
 leaves kind = flat_map (λ a. leaves_with a (sub_attributes a)) (attributes kind)
 

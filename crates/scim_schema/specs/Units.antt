@@ -1,4 +1,5 @@
--- Leaves and units. A cell holds one atom at one leaf; a unit is granted and written as a whole.
+-- Leaves and units. A cell holds one simple value at one leaf. A unit is a part of a resource for which
+-- writing is allowed or denied as a whole.
 use Rattle.std.specs.Prelude.{Bool, None, Some, ◌&&◌, List, [], ◌∷◌, map, if◌then◌else◌}
 use Rattle.std.specs.List.{flat_map}
 use Rattle.std.specs.Option.{option_eq}
@@ -25,7 +26,7 @@ leaf_at a b = record { attribute = a; sub_attribute = Some b }
 abbrev pub whole : Attribute → AttributeUnit
 whole a = record { attribute = a; sub_attribute = None }
 
--- the unit of a leaf: the leaf itself, or the whole attribute if that is multi-valued
+-- the unit that contains a leaf: the whole attribute if it is multi-valued, otherwise the leaf alone
 abbrev pub unit_of : Leaf → AttributeUnit
 unit_of leaf = record { attribute = leaf.attribute; sub_attribute = if is_multi_valued leaf.attribute then None else leaf.sub_attribute }
 
@@ -45,6 +46,6 @@ is_same_unit u v = is_same_attribute u.attribute v.attribute && option_eq (sameb
 abbrev pub units_of : Attribute → List AttributeUnit
 units_of a = if is_multi_valued a then whole a ∷ [] else map unit_of (leaves_with a (sub_attributes a))
 
--- the units of a kind, in the order of the table
+-- the units of a kind, in the order of `Table.antt`
 unfoldable pub units : Kind → List AttributeUnit
 units kind = flat_map units_of (attributes kind)

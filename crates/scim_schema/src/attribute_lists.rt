@@ -1,4 +1,4 @@
-//! The attributes, sub-attributes, leaves and units of each kind, in the order of the table.
+//! The attributes, sub-attributes, leaves and units of each kind, in the order of `specs/Table.antt`.
 ghost use Rattle.std.specs.Prelude.{◌≡◌, ◌↔◌, IsTrue};
 ghost use Rattle.scim_schema.specs.Table as table;
 ghost use Rattle.scim_schema.specs.UniqueLeaves as unique;
@@ -6,7 +6,7 @@ ghost use Rattle.scim_schema.specs.Units as of_units;
 
 use crate::{Attribute, Kind, Leaf, SubAttribute, Unit};
 
-// A line of the tables below: a simple attribute, or an attribute with one of its sub-attributes.
+// The leaf of a simple attribute, or of a sub-attribute of a complex attribute.
 macro_rules! leaf {
     ($attribute:ident) => {
         Leaf {
@@ -222,7 +222,7 @@ static GROUP_UNITS: [Unit; 8] = [
     unit!(Meta, Location),
 ];
 
-/// The attributes of a kind, in the order of the table.
+/// The attributes of a kind, in the order of `specs/Table.antt`.
 pub fn attributes(kind: Kind) -> &'static [Attribute]
     ensures { result.now ≡ table.attributes kind }
 {
@@ -232,7 +232,7 @@ pub fn attributes(kind: Kind) -> &'static [Attribute]
     }
 }
 
-/// The leaves of a kind, in the order of the table, called leaf order.
+/// The leaves of a kind, in the order of `specs/Table.antt`. Other comments call this order leaf order.
 pub fn leaves(kind: Kind) -> &'static [Leaf]
     ensures { result.now ≡ table.leaves kind }
 {
@@ -242,7 +242,7 @@ pub fn leaves(kind: Kind) -> &'static [Leaf]
     }
 }
 
-/// The units of a kind, in the order of the table.
+/// The units of a kind, in the order of `specs/Table.antt`.
 #[tactic(auto, unfolding(crate::specs::Units::units))]
 pub fn units(kind: Kind) -> &'static [Unit]
     ensures { result.now ≡ of_units.units kind }
@@ -260,7 +260,7 @@ pub fn has_leaf(kind: Kind, leaf: Leaf) -> bool
     leaves(kind).contains(&leaf)
 }
 
-/// The sub-attributes of an attribute, in the order of the table. Empty for a simple attribute.
+/// The sub-attributes of an attribute, in the order of `specs/Table.antt`. Empty for a simple attribute.
 pub fn sub_attributes(attribute: Attribute) -> &'static [SubAttribute]
     ensures { result.now ≡ table.sub_attributes attribute }
 {
@@ -322,7 +322,7 @@ pub fn sub_attributes(attribute: Attribute) -> &'static [SubAttribute]
     }
 }
 
-/// The leaves of a kind at which no two resources may have the same value (RFC 7643 section 2.2,
+/// The leaves of a kind that must have a different value in each resource (RFC 7643 section 2.2,
 /// uniqueness).
 #[tactic(auto, unfolding(crate::specs::UniqueLeaves::unique_leaves))]
 pub fn unique_leaves(kind: Kind) -> &'static [Leaf]

@@ -137,8 +137,8 @@ impl Characteristics {
     }
 }
 
-/// The characteristics of an attribute of the kind (RFC 7643 sections 3.1, 4 and 7). For an
-/// attribute that the kind doesn't have, returns its characteristics for the other kind.
+/// The characteristics of an attribute of the kind (RFC 7643 sections 3.1, 4 and 7). If the kind
+/// doesn't have the attribute, returns the characteristics of the attribute for the other kind.
 pub fn attribute_characteristics(kind: Kind, attribute: Attribute) -> Characteristics
     ensures { result ≡ spec.attribute_characteristics kind attribute }
 {
@@ -220,8 +220,8 @@ fn common_sub_attribute(sub_attribute: SubAttribute) -> Characteristics
     }
 }
 
-/// The characteristics of a sub-attribute of a link to a resource: `value` is its id, `$ref` its
-/// location.
+/// The characteristics of a sub-attribute of a link to a resource: `value` is the id of the resource,
+/// and `$ref` is the location.
 fn linked_sub_attribute(sub_attribute: SubAttribute) -> Characteristics
     ensures { result ≡ spec.linked_sub_attribute sub_attribute }
 {
@@ -232,7 +232,7 @@ fn linked_sub_attribute(sub_attribute: SubAttribute) -> Characteristics
     }
 }
 
-/// The characteristics of a sub-attribute of `meta`, all read-only.
+/// The characteristics of a sub-attribute of `meta`. Each one is read-only.
 fn meta_sub_attribute(sub_attribute: SubAttribute) -> Characteristics
     ensures { result ≡ spec.meta_sub_attribute sub_attribute }
 {
@@ -255,24 +255,24 @@ pub fn characteristics_of(kind: Kind, leaf: Leaf) -> Characteristics
     }
 }
 
-/// Whether the attribute holds a list of values (RFC 7643 section 2.4). It doesn't depend on the
-/// kind.
+/// Whether the attribute holds a list of values (RFC 7643 section 2.4). The answer doesn't depend
+/// on the kind of resource.
 pub fn is_multi_valued(attribute: Attribute) -> bool
     ensures { result ≡ spec.is_multi_valued attribute }
 {
     attribute_characteristics(Kind::User, attribute).multi_valued
 }
 
-/// Whether comparisons of the leaf's texts are case-sensitive (RFC 7643 section 2.2). It doesn't
-/// depend on the kind.
+/// Whether comparisons of texts at the leaf are case-sensitive (RFC 7643 section 2.2). The answer
+/// doesn't depend on the kind of resource.
 pub fn is_case_exact(leaf: Leaf) -> bool
     ensures { result ≡ spec.is_case_exact leaf }
 {
     characteristics_of(Kind::User, leaf).case_exact
 }
 
-/// Whether the leaf, or the whole attribute if there is no sub-attribute, is read-only: no client
-/// may write it (RFC 7643 section 2.2).
+/// Whether the leaf is read-only: no client may write it (RFC 7643 section 2.2). If `leaf` has no
+/// sub-attribute, the answer is for the whole attribute.
 pub fn is_read_only(kind: Kind, leaf: Leaf) -> bool
     ensures { result ≡ written.is_read_only kind leaf }
 {

@@ -7,28 +7,28 @@ use crate::characteristics::{AttributeType, attribute_characteristics};
 use crate::schema_urns::Schema;
 use crate::{Attribute, Kind, SubAttribute};
 
-/// The purpose of a JSON text of a resource or of a part of one.
+/// Who reads the JSON text of a resource: a client or the store. The text for the store has fewer keys.
 #[derive(Clone, Copy, PartialEq, Eq)]
 pub enum JsonForm {
-    /// For a client: all cells, and `schemas` (RFC 7643 section 3).
+    /// For a client: all attributes, and `schemas` (RFC 7643 section 3).
     Shown,
     /// For the store: without `schemas`, `meta.location` and `groups`, which the server computes.
     Stored,
 }
 
-/// A key of the outermost JSON object of a resource or of a part of one.
+/// A key of the outermost JSON object that represents a resource or a part of a resource.
 #[derive(Clone, Copy, PartialEq, Eq)]
 pub enum JsonKey {
     /// The name of an attribute of a core schema.
     Of(Attribute),
     /// `schemas` (RFC 7643 section 3).
     Schemas,
-    /// The URN of an extension, whose attributes are in an object of their own (RFC 7643 section
-    /// 3.3).
+    /// The URN of an extension. The value is an object with the attributes of the extension (RFC
+    /// 7643 section 3.3).
     Extension(Schema),
 }
 
-/// The form of the JSON value of an attribute.
+/// Whether the JSON value of an attribute is simple, an object or an array of objects.
 #[derive(Clone, Copy, PartialEq, Eq)]
 pub enum JsonShape {
     /// A value that isn't an object or an array.
@@ -126,7 +126,7 @@ impl JsonKey {
     }
 }
 
-/// The keys that the outermost object of a resource of the kind may have, in byte order.
+/// The keys that the outermost JSON object of a resource of the kind may have, in byte order.
 #[tactic(auto, unfolding(crate::specs::JsonKeys::keys))]
 pub fn keys(form: JsonForm, kind: Kind) -> &'static [JsonKey]
     ensures { result.now ≡ spec.keys form kind }
@@ -139,8 +139,8 @@ pub fn keys(form: JsonForm, kind: Kind) -> &'static [JsonKey]
     }
 }
 
-/// The attributes that the object of an extension may have, in byte order of their names. Empty for
-/// a core schema, whose attributes have no object of their own.
+/// The attributes that the JSON object of an extension may have, in byte order of their names. Empty
+/// for a core schema, because its attributes are keys of the outermost object.
 #[tactic(auto, unfolding(crate::specs::JsonKeys::extension_keys))]
 pub fn extension_keys(schema: Schema) -> &'static [Attribute]
     ensures { result.now ≡ spec.extension_keys schema }
@@ -158,8 +158,8 @@ pub fn extension_keys(schema: Schema) -> &'static [Attribute]
     }
 }
 
-/// The sub-attributes that an object of the attribute's value may have, in byte order of their
-/// names. Empty for a simple attribute.
+/// The sub-attributes that a JSON object in the value of the attribute may have, in byte order of
+/// their names. Empty for a simple attribute.
 #[tactic(auto, unfolding(crate::specs::JsonKeys::ordered_sub_attributes))]
 pub fn ordered_sub_attributes(form: JsonForm, attribute: Attribute) -> &'static [SubAttribute]
     ensures { result.now ≡ spec.ordered_sub_attributes form attribute }
@@ -211,7 +211,7 @@ pub fn ordered_sub_attributes(form: JsonForm, attribute: Attribute) -> &'static 
     }
 }
 
-/// The sub-attributes of `meta` in byte order of their names, without `location` in the stored form.
+/// The sub-attributes of `meta`, in byte order of their names. `Stored` leaves out `location`.
 fn ordered_meta_sub_attributes(form: JsonForm) -> &'static [SubAttribute]
     ensures { result.now ≡ spec.ordered_meta_sub_attributes form }
 {
@@ -230,7 +230,8 @@ fn ordered_meta_sub_attributes(form: JsonForm) -> &'static [SubAttribute]
     }
 }
 
-/// The form of the JSON value of the attribute. It doesn't depend on the kind.
+/// Whether the JSON value of the attribute is simple, an object or an array of objects. The answer doesn't
+/// depend on the kind of resource.
 #[tactic(auto, unfolding(crate::specs::JsonKeys::shape_of))]
 pub fn shape_of(attribute: Attribute) -> JsonShape
     ensures { result ≡ spec.shape_of attribute }
@@ -252,8 +253,9 @@ pub fn keys_ascend()
     ensures sub_attributes { spec.SubAttributesAscend }
 {}
 
-/// Lemma: the JSON text for a client has a key for each cell. Each attribute of a kind has its name
-/// or the URN of its extension as a key, and each sub-attribute is in the object of its attribute.
+/// Lemma: the JSON text for a client has a key for each attribute and sub-attribute. The key of an
+/// attribute in the outermost object is the attribute's name, or the URN if an extension defines the
+/// attribute. Each sub-attribute is a key of its attribute's object.
 pub fn keys_have_all_attributes()
     ensures attributes { spec.AttributesHaveKeys }
     ensures sub_attributes { spec.SubAttributesHaveKeys }

@@ -1,5 +1,5 @@
-//! Leaves and units. A cell of a resource holds one atom at one leaf; a unit is granted and written
-//! as a whole.
+//! Leaves and units. A cell of a resource holds one simple value at one leaf. A unit is a part of
+//! a resource for which writing is allowed or denied as a whole.
 ghost use Rattle.std.specs.Prelude.{◌≡◌};
 ghost use Rattle.scim_schema.specs.Units as units;
 
@@ -29,7 +29,7 @@ impl Leaf {
 }
 
 impl Unit {
-    /// The unit of a whole attribute: a simple one, or a multi-valued one with all its values.
+    /// The unit of a whole attribute: a simple attribute, or all values of a multi-valued attribute.
     pub fn whole(attribute: Attribute) -> Unit
         ensures { result ≡ units.whole attribute }
     {
@@ -40,7 +40,7 @@ impl Unit {
     }
 }
 
-/// The unit of a leaf: the leaf itself, or the whole attribute if that is multi-valued.
+/// The unit that contains the leaf: the whole attribute if it is multi-valued, otherwise the leaf alone.
 pub fn unit_of(leaf: Leaf) -> Unit
     ensures { result ≡ units.unit_of leaf }
 {

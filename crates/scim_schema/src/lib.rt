@@ -1,5 +1,5 @@
-//! The attribute table of SCIM: the kinds of resources, their attributes and sub-attributes, the
-//! schemas that contain these, and all characteristics (RFC 7643 sections 2, 3.1, 4 and 7).
+//! The schemas of SCIM: the kinds of resources, their attributes and sub-attributes, the URNs of the
+//! schemas, and the characteristics of each attribute (RFC 7643 sections 2, 3.1, 4 and 7).
 //!
 //! No function of this crate allocates or fails.
 #![tactic(auto)]
@@ -50,7 +50,7 @@ pub enum Op {
 
 /// An attribute of a user (RFC 7643 sections 3.1, 4.1 and 4.3) or a group (sections 3.1 and 4.2).
 ///
-/// An attribute that both kinds have is a single variant.
+/// An attribute of both users and groups, such as `id`, has a single variant.
 #[derive(Clone, Copy, Debug, PartialEq, Eq, Hash)]
 pub enum Attribute {
     Id,
@@ -114,10 +114,10 @@ pub enum SubAttribute {
     Location,
 }
 
-/// A simple attribute, or a sub-attribute of a complex one. Each cell of a resource holds one atom
-/// at one leaf.
+/// A simple attribute, or a sub-attribute of a complex attribute. Each cell of a resource holds one
+/// simple value at one leaf.
 ///
-/// Not every pair is a leaf of a kind: see [`has_leaf`].
+/// Not every pair of an attribute and a sub-attribute is a leaf of a kind: see [`has_leaf`].
 #[derive(Clone, Copy, PartialEq, Eq, Hash)]
 pub struct Leaf {
     pub attribute: Attribute,
@@ -125,11 +125,11 @@ pub struct Leaf {
     pub sub_attribute: Option<SubAttribute>,
 }
 
-/// A part of a resource that is granted and written as a whole: a simple attribute, a sub-attribute of
-/// a single-valued complex attribute, or a whole multi-valued attribute.
+/// A part of a resource for which writing is allowed or denied as a whole: a simple attribute, a
+/// sub-attribute of a single-valued complex attribute, or a whole multi-valued attribute.
 #[derive(Clone, Copy, PartialEq, Eq)]
 pub struct Unit {
     pub attribute: Attribute,
-    /// `None` for a simple attribute and for a whole multi-valued one.
+    /// `None` for a simple attribute and for a whole multi-valued attribute.
     pub sub_attribute: Option<SubAttribute>,
 }

@@ -20,8 +20,8 @@ pub fn attribute_named(kind: Kind, name: &str) -> Option<Attribute>
         .find(|a| is_same_name(a.name(), name))
 }
 
-/// Returns the attribute of the kind with this name in this schema, or `None` if there is none. It
-/// resolves full paths such as `urn:..:User:userName` (RFC 7644 section 3.10).
+/// Returns the attribute of the kind with this name in this schema, or `None` if there is no such
+/// attribute. Use it for full paths such as `urn:..:User:userName` (RFC 7644 section 3.10).
 pub fn attribute_named_in(kind: Kind, schema: Schema, name: &str) -> Option<Attribute>
     ensures { result ≡ lookup.attribute_named_in kind schema name.now }
 {
@@ -30,7 +30,7 @@ pub fn attribute_named_in(kind: Kind, schema: Schema, name: &str) -> Option<Attr
 }
 
 /// Returns the sub-attribute of the attribute with this name, or `None` if the attribute has no such
-/// sub-attribute. A simple attribute has none.
+/// sub-attribute. A simple attribute has no sub-attributes.
 pub fn sub_attribute_named(attribute: Attribute, name: &str) -> Option<SubAttribute>
     ensures { result ≡ lookup.sub_attribute_named attribute name.now }
 {

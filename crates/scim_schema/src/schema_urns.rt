@@ -13,7 +13,7 @@ pub enum Schema {
 }
 
 impl Schema {
-    /// All schemas, in the order of `/Schemas`.
+    /// All schemas, in the order in which `/Schemas` lists them.
     pub fn all() -> &'static [Schema]
         ensures { result.now ≡ spec.schemas }
     {
@@ -32,7 +32,7 @@ impl Schema {
     }
 }
 
-/// The core schema of the kind, which each resource of it has.
+/// The core schema of the kind. Every resource of the kind has this schema.
 pub fn core_schema(kind: Kind) -> Schema
     ensures { result ≡ spec.core_schema kind }
 {
@@ -52,7 +52,7 @@ pub fn extensions(kind: Kind) -> &'static [Schema]
     }
 }
 
-/// The extension of an attribute, or `None` for an attribute of a core schema.
+/// The extension that defines an attribute, or `None` if a core schema defines the attribute.
 pub fn extension_of(attribute: Attribute) -> Option<Schema>
     ensures { result ≡ spec.extension_of attribute }
 {
@@ -67,7 +67,7 @@ pub fn extension_of(attribute: Attribute) -> Option<Schema>
     }
 }
 
-/// The schema of an attribute of the kind. `id`, `externalId` and `meta` belong to the core schema.
+/// The schema that defines an attribute of the kind. `id`, `externalId` and `meta` belong to the core schema.
 pub fn schema_of(kind: Kind, attribute: Attribute) -> Schema
     ensures { result ≡ spec.schema_of kind attribute }
 {

@@ -8,8 +8,8 @@ use Rattle.scim_view.specs.View.{Viewer}
 use Rattle.scim_view.specs.Groups.{with_groups}
 use Rattle.scim_query.specs.Pages.{is_match}
 
--- if the part of a resource of the kind that any viewer sees, with any groups, matches the filter, the
--- resource passes the test
+-- a resource of the kind passes the test if the part that some viewer sees of the resource, with some groups,
+-- matches the filter
 abbrev pub OnlyThose : Kind → Option Filter → (Content → Bool) → Type 0
 OnlyThose kind filter passes = (v : Viewer) (groups : List Content) (c : Content)
     → c.kind ≡ kind → IsResource c → is_match filter (with_groups v groups c) ≡ true → passes c ≡ true

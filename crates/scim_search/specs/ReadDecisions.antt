@@ -21,8 +21,8 @@ AreFor v c decisions = (l : Leaf) → decision decisions l ≡ read_decision v c
 abbrev pub DecidesOn : Viewer → Kind → (Content → Leaf → Decision) → Type 0
 DecidesOn v kind decides = (c : Content) → c.kind ≡ kind → (l : Leaf) → decides c l ≡ read_decision v c l
 
--- for each resource of the kind, the form has the policy's decisions on the viewer's read access, in one
--- table for all resources or by the selected rules
+-- for each resource of the kind, the table or the rules of the form yield the policy's decisions on the
+-- viewer's read access
 abbrev pub DecidesBy : Viewer → Kind → Form → Type 0
 DecidesBy v kind (Alike table) = DecidesOn v kind (λ c. decision table)
 DecidesBy v kind (ByTarget rules) = DecidesOn v kind (decided_by rules)

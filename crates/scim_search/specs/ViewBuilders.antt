@@ -10,7 +10,7 @@ use Rattle.scim_search.specs.declared.view_builders.ViewBuilder.{ViewBuilder}
 use Rattle.scim_search.specs.ReadDecisions.{AreDecisions}
 
 -- the part that is built from a resource: the visible part of some attributes, or the whole visible part with
--- its groups
+-- computed `groups`
 abbrev pub made : Viewer → List Content → ViewScope → Content → Content
 made v groups (Named attributes) c = visible_attributes attributes.now (read_decision v c) c
 made v groups (Whole index) c = with_groups v groups c

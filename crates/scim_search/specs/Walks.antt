@@ -40,7 +40,7 @@ pub record SeenResource (v : Viewer) (kind : Kind) (cs : List Content) : Type 0 
   pub seen : sees v own ≡ true
   pub found : find (is_at kind own.id) cs ≡ Some own
 
--- `whole` has, for each id of the items, the viewer's view of the resource with this id, with its groups
+-- `whole` has, for each id of the items, the viewer's view of the resource with this id and its groups
 abbrev pub AreWhole : Viewer → Kind → List Content → List Content → List Content → Type 0
 AreWhole v kind cs items whole = (found : List (SeenResource v kind cs)) → map (λ p. p.id) items ≡ map (λ x. x.own.id) found
     → whole ≡ map (λ x. with_groups v (of_kind Group cs) x.own) found

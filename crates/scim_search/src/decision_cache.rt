@@ -14,12 +14,12 @@ use scim_text::NoMemory;
 use std::alloc::Global;
 use std::collections::HashMap;
 
-/// The maximum number of resources whose decisions are cached. Without it, a walk in which each resource
-/// sorts before all earlier ones would cache the decisions on every resource.
+/// The maximum number of resources whose decisions are cached. Without this limit, a search in which each
+/// resource sorts before all earlier ones would cache the decisions on every resource.
 const MOST_KEPT: usize = 4_096;
 
 /// A cache of decisions on reading resources of one kind, by id.
-/// With it, a request needn't evaluate the targets of the rules on the same resource twice.
+/// With this cache, a request needn't evaluate the targets of the rules on the same resource twice.
 #[derive(Drop)]
 pub(crate) struct Decided {
     by_id: HashMap<Id, Decisions>,

@@ -41,8 +41,8 @@ pub fn groups_beside<S: Shelf>(
     Ok(listing.end())
 }
 
-/// Clears the visitor, and gathers in it the groups that appear in the `groups` of the resource. Fails with
-/// the errors of the shelf.
+/// Clears the visitor, then gathers the groups that appear in the `groups` of the resource. Fails with the
+/// errors of the shelf.
 fn gather_groups<S: Shelf>(
     alloc: Global,
     listing: &mut ListingVisitor<'_>,
@@ -62,8 +62,8 @@ fn gather_groups<S: Shelf>(
     }
 }
 
-/// Gathers the groups that list the resource, a user or a group, in a visitor that has no groups yet. Fails
-/// with the errors of the shelf.
+/// Gathers the groups that list the resource as a member. The resource may be a user or a group. The visitor
+/// must have no groups yet. Fails with the errors of the shelf.
 fn gather_listing<S: Shelf>(
     alloc: Global,
     listing: &mut ListingVisitor<'_>,
@@ -82,8 +82,8 @@ fn gather_listing<S: Shelf>(
     shelf.groups_with(alloc, value, listing)
 }
 
-/// Returns the part of the resource that the client may see by `decisions`, with its groups; `None` if the
-/// client may not read the `id`.
+/// Returns the part of the resource that `decisions` let the client see, with its computed `groups`; `None`
+/// if the client may not read the `id`.
 pub(crate) fn view_beside<S: Shelf>(
     alloc: Global,
     viewer: &Viewer<'_>,

@@ -69,8 +69,8 @@ pub(crate) fn needed_id(query: &Query) -> Option<Id>
     Id::read(text.as_str())
 }
 
-/// Returns the part of the resource that the client sees, with its groups; `None` if the resource isn't of
-/// the kind, or the client doesn't see it.
+/// Returns the part of the resource that the client sees, with its computed `groups`; `None` if the resource
+/// isn't of the kind, or the client doesn't see it.
 fn seen_part<S: Shelf>(
     alloc: Global,
     viewer: &Viewer<'_>,
@@ -91,8 +91,8 @@ fn seen_part<S: Shelf>(
     view_beside(alloc, viewer, &decisions, &mut listing, shelf, resource)
 }
 
-/// Returns the part of the found resource that the client sees, with its groups; `None` if no resource was
-/// found, if it isn't of the kind, or if the client doesn't see it.
+/// Returns the part of the found resource that the client sees, with its computed `groups`; `None` if no
+/// resource was found, if the resource isn't of the kind, or if the client doesn't see it.
 fn seen_if_found<S: Shelf>(
     alloc: Global,
     viewer: &Viewer<'_>,
@@ -120,7 +120,8 @@ fn page_of_one(alloc: Global, part: Part, query: &Query) -> Result<Page, NoMemor
     pager.end()
 }
 
-/// Returns the page of the query over the list that has only this part, or over the empty list.
+/// Returns the page of the query over the list that has only this part, or over the empty list if there is
+/// no part.
 fn page_of(alloc: Global, part: Option<Part>, query: &Query) -> Result<Page, NoMemory>
     ensures { IfOk result (λ page. IsPage (and_those part []) query.now page) }
 {

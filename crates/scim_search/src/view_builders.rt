@@ -74,9 +74,9 @@ impl<'a> ViewBuilder<'a> {
         self.decisions.on(alloc, self.viewer, resource)
     }
 
-    /// Passes the part of the resource to the pager, if the client sees the resource by these decisions.
-    /// Returns whether the pager now holds a part that isn't whole, so that the decisions will be needed
-    /// again.
+    /// Builds the part of the resource and passes it to the pager, if `decisions` let the client see the
+    /// resource. Returns whether the pager now holds a part with only the named attributes, so that the
+    /// decisions will be needed again.
     pub(crate) fn show(
         &self,
         alloc: Global,

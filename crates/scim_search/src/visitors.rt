@@ -46,7 +46,7 @@ impl<'a> GroupVisitor<'a> {
         })
     }
 
-    /// Returns the index.
+    /// Consumes the visitor and returns the index.
     pub(crate) fn end(self) -> GroupIndex
         ensures { result ≡ self.entry.index }
     {
@@ -168,7 +168,7 @@ impl<'a> SearchVisitor<'a> {
         }
     }
 
-    /// Returns the page and the cached decisions.
+    /// Consumes the visitor and returns the page and the cached decisions.
     pub(crate) fn end(self) -> Result<Found, NoMemory>
         ensures page { IfOk result (λ found. (parts : List Content)
             → HasTaken parts self.entry.pager

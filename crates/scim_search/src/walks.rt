@@ -80,7 +80,8 @@ fn page_made<S: Shelf>(
     Ok(search.end()?)
 }
 
-/// Returns the page of a query that names the attribute `groups`. The groups of every resource are computed.
+/// Returns the page of a query that names the attribute `groups`. `groups` is computed for every
+/// resource.
 fn page_by_groups<S: Shelf>(
     alloc: Global,
     viewer: &Viewer<'_>,

@@ -54,8 +54,8 @@ impl<'a> ItemBuilder<'a> {
         }
     }
 
-    /// Returns the part of the resource that the client sees, with its groups; `None` if the client doesn't
-    /// see the resource.
+    /// Returns the part of the resource that the client sees, with its computed `groups`; `None` if the
+    /// client doesn't see the resource.
     fn part_of<S: Shelf>(
         &self,
         alloc: Global,
@@ -152,8 +152,8 @@ fn push_parts<S: Shelf>(
     }
 }
 
-/// Returns, for each id of `items` in order, the client's view of the resource with this id, with its groups.
-/// Decisions on resources or groups that are still cached ([`Decided`]) aren't evaluated again.
+/// Returns, for each id of `items` in order, the client's view of the resource with this id, with computed
+/// `groups`. Decisions on resources or groups that are still cached ([`Decided`]) aren't evaluated again.
 pub(crate) fn whole_items<S: Shelf>(
     alloc: Global,
     builder: ItemBuilder<'_>,

@@ -1,4 +1,4 @@
--- The turns that reach the service.
+-- What holds for the requests that reach the service.
 use Rattle.std.specs.Prelude.{◌≡◌, ◌≤◌, ⊤, ℕ, false, List, Result, Ok}
 use Rattle.scim_text.specs.Moments.{last_moment}
 use Rattle.scim_cell.specs.Content.{Content}

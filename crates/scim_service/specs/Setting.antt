@@ -7,7 +7,7 @@ use Rattle.scim_service.specs.declared.answering_turns.Service.{Service}
 abbrev pub service_policy : {S : Type 0} → Service S → List Rule
 service_policy service = service.policy
 
--- The base URI of a service's locations.
+-- The base URI of a service; the location of each resource begins with it.
 abbrev pub service_base : {S : Type 0} → Service S → List ℕ
 service_base service = service.base
 

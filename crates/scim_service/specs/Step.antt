@@ -1,4 +1,4 @@
--- The plan of one request: its reply, its change and its audit row (RFC 7644 section 3).
+-- The plan for one request: the reply, the change to the store and the audit row (RFC 7644 section 3).
 use Rattle.std.specs.Prelude.{ℕ, Bool, true, false, not, ◌&&◌, ◌||◌, List, [], ◌∷◌, filter, find, Option, None, Some, is_none, option_and_then, Result, Ok, Err, if◌then◌else◌}
 use Rattle.std.specs.List.{list_any}
 use denote.Enum.Bare.{sameb}
@@ -58,8 +58,8 @@ use Rattle.scim_service.specs.declared.replies.Reply.{Reply}
 use Rattle.scim_service.specs.declared.replies.Reply.TheVariants.{Shown, Created, Done, Refused}
 use Rattle.scim_service.specs.declared.plans.Plan.{Plan}
 
--- The audit row of a turn: its moment, client, operation and kind, with this id, decision, rule, leaf and
--- refusal.
+-- The audit row for a request: the request's moment, client, operation and kind, with this id, decision,
+-- rule, leaf and refusal.
 abbrev pub row_of : Turn → Option (List ℕ) → Decided → Option ℕ → Option Leaf → Option Refusal → AuditRow
 row_of turn id decided rule leaf refusal = record {
   moment = turn.moment;
@@ -83,17 +83,18 @@ is_for_one op (Ok (MakeOne draft wanted)) = false
 is_for_one op (Ok _) = true
 is_for_one op (Err refusal) = not (sameb the_op op Create)
 
--- The id of the resource that a turn is for; `None` if `is_for_one` says that its request isn't for one
--- resource, even if the request has an id.
+-- The id of a request, if `is_for_one` says that the request is for one resource; otherwise `None`, even if
+-- the request has an id.
 unfoldable pub named_id : Turn → Option (List ℕ)
 named_id turn = if is_for_one turn.request.op turn.request.ask then turn.request.id else None
 
--- The plan of a refusal. Its audit row has the id of the resource that the request is for, and this decision,
--- rule and leaf.
+-- The plan that refuses a request. Its audit row has the id of the resource that the request is for, and this
+-- decision, rule and leaf.
 abbrev pub refusal_plan : Turn → Decided → Option ℕ → Option Leaf → Refusal → Plan
 refusal_plan turn how rule leaf refusal = record { reply = Refused refusal; change = Nothing; row = row_of turn (named_id turn) how rule leaf (Some refusal) }
 
--- The plan of a refusal that isn't a decision of the policy. Its audit row names no rule.
+-- The plan that refuses a request for a reason other than a decision of the policy. Its audit row names no
+-- rule.
 unfoldable pub rejection_plan : Turn → Refusal → Plan
 rejection_plan turn refusal = refusal_plan turn decided.Refused None None refusal
 
@@ -101,13 +102,13 @@ rejection_plan turn refusal = refusal_plan turn decided.Refused None None refusa
 unfoldable pub absence_plan : Turn → Plan
 absence_plan turn = refusal_plan turn decided.Absent None None NotFound
 
--- The plan of a request for a resource whose `id` the client may not read, by this decision. The reply is the
--- refusal `NotFound`, as if the resource didn't exist.
+-- The plan of a request for a resource whose `id` the client may not read, by the decision `d`. The reply is
+-- the refusal `NotFound`, as if the resource didn't exist.
 unfoldable pub hidden_plan : Turn → Decision → Plan
 hidden_plan turn d = refusal_plan turn decided.Hidden (Some d.rule) (Some (simple Id)) NotFound
 
--- The plan of a refusal because of this decision at a leaf. The decision denies the request at the leaf, or
--- would allow the client something there that was denied before the change.
+-- The plan that refuses a request because of the policy's decision `d` on the leaf `l`: either `d` denies the
+-- request, or `d` is a decision after the change that would allow what was denied before.
 unfoldable pub denial_plan : Turn → Decision → Leaf → Refusal → Plan
 denial_plan turn d l refusal = refusal_plan turn decided.Deny (Some d.rule) (Some l) refusal
 
@@ -117,8 +118,8 @@ denial_plan turn d l refusal = refusal_plan turn decided.Deny (Some d.rule) (Som
 abbrev pub allowed_row : Turn → ℕ → AuditRow
 allowed_row turn rule = row_of turn turn.request.id decided.Allow (Some rule) None None
 
--- The JSON of a resource as the client sees it, with its groups among `groups`, projected to the wanted
--- attributes (RFC 7644 section 3.4.1).
+-- The JSON of a resource as the client sees it, with its groups (found among `groups`), projected to the
+-- wanted attributes (RFC 7644 section 3.4.1).
 unfoldable pub resource_text : Viewer → List Content → Wanted → Content → List ℕ
 resource_text v groups wanted c = compact_text (part_data (shown wanted (with_groups v groups c)))
 
@@ -130,7 +131,8 @@ get_plan v turn cs wanted c = record { reply = Shown (resource_text v (of_kind G
 abbrev pub view_of_kind : Viewer → Turn → List Content → List Content
 view_of_kind v turn cs = views v (of_kind Group cs) (of_kind turn.request.kind cs)
 
--- The JSON of the page of a query over a client's view (RFC 7644 section 3.4.2).
+-- The JSON of the page that a query selects from `view`, the resources as the client sees them (RFC 7644
+-- section 3.4.2).
 abbrev pub list_text : Query → List Content → List ℕ
 list_text query view = compact_text (list_data (total_of query view) (first_position query.start) (shown_items query view))
 
@@ -138,7 +140,7 @@ list_text query view = compact_text (list_data (total_of query view) (first_posi
 unfoldable pub search_plan : Viewer → Turn → List Content → Query → Plan
 search_plan v turn cs query = record { reply = Shown (list_text query (view_of_kind v turn cs)); change = Nothing; row = row_of turn None decided.Allow None None None }
 
--- The policy's decision on deleting a resource, made at its `id`.
+-- The policy's decision on deleting a resource, for the leaf `id`.
 abbrev pub delete_decision : Viewer → Content → Decision
 delete_decision v c = decide v.policy v.client Delete c (simple Id)
 
@@ -156,7 +158,7 @@ removal_plan v turn c =
 abbrev pub new_resource : Viewer → Turn → Draft → Content
 new_resource v turn d = created d turn.fresh turn.moment v.base
 
--- The policy's decision at a leaf on creating a resource. The targets of rules are tested on the new
+-- The policy's decision on creating a resource, for one leaf. The targets of rules are tested on the new
 -- resource.
 abbrev pub create_decision : Viewer → Content → Leaf → Decision
 create_decision v c l = decide v.policy v.client Create c l
@@ -166,8 +168,8 @@ create_decision v c l = decide v.policy v.client Create c l
 abbrev pub is_decided : Draft → Leaf → Bool
 is_decided d l = is_same_leaf l (simple Id) || list_any (is_same_unit (unit_of l)) d.given
 
--- The first leaf, in leaf order, at which a create of the resource from the draft needs permission and is
--- denied.
+-- The first leaf, in leaf order, for which a create of `c` from the draft needs permission and the policy
+-- denies it.
 abbrev pub first_denied : Viewer → Draft → Content → Option Leaf
 first_denied v d c = find (λ l. is_decided d l && not (create_decision v c l).allow) (leaves d.kind)
 
@@ -194,7 +196,8 @@ abbrev pub unique_creation_plan : Viewer → Turn → List Content → Wanted �
 unique_creation_plan v turn cs wanted c =
     if is_taken cs c then rejection_plan turn Taken else (if is_used cs c.id then rejection_plan turn IdInUse else kept_creation_plan v turn cs wanted c)
 
--- The plan of a create that the policy denies at a leaf, if one is given, and allows otherwise.
+-- The plan of a create. If a leaf is given, the policy denies the create at that leaf; otherwise the policy
+-- allows the create.
 abbrev pub decided_creation_plan : Viewer → Turn → List Content → Wanted → Content → Option Leaf → Plan
 decided_creation_plan v turn cs wanted c None = unique_creation_plan v turn cs wanted c
 decided_creation_plan v turn cs wanted c (Some l) = denial_plan turn (create_decision v c l) l Denied
@@ -203,7 +206,7 @@ decided_creation_plan v turn cs wanted c (Some l) = denial_plan turn (create_dec
 abbrev pub is_for : Turn → Draft → Bool
 is_for turn d = sameb the_kind d.kind turn.request.kind && sameb the_use_for d.use_for Creating
 
--- The plan of a create from a draft.
+-- The plan of a create from a draft. A draft that isn't one for this request is refused.
 unfoldable pub creation_plan : Viewer → Turn → List Content → Draft → Wanted → Plan
 creation_plan v turn cs d wanted =
     if is_for turn d then decided_creation_plan v turn cs wanted (new_resource v turn d) (first_denied v d (new_resource v turn d)) else rejection_plan turn MessageValue
@@ -214,13 +217,13 @@ creation_plan v turn cs d wanted =
 abbrev pub access_to : Viewer → Content → Access
 access_to v c = access v.policy v.client c
 
--- The denied leaf and the decision on it if a unit isn't readOnly, the client may not write it, and the body
--- gives it values other than those that the client sees; `None` otherwise.
+-- The denied leaf and the decision on that leaf if a PUT is denied because of a unit; otherwise `None`. The
+-- PUT is denied if the unit isn't readOnly, the client may not write the unit, and the body gives the unit
+-- other values than the client sees.
 abbrev pub unit_denial : Access → Draft → Content → AttributeUnit → Option (Leaf × Decision)
 unit_denial a d seen u = if is_fixed d.kind u || (not (gives d u) || agrees d u seen) then None else forbidding d.kind a u
 
--- The denied leaf and the decision on it, for the first of these units that is denied; `None` if no unit is
--- denied.
+-- The first result of `unit_denial` on these units that isn't `None`; `None` if no unit is denied.
 abbrev pub first_unit_denial : Access → Draft → Content → List AttributeUnit → Option (Leaf × Decision)
 first_unit_denial a d seen [] = None
 first_unit_denial a d seen (u ∷ us) = or_else (unit_denial a d seen u) (first_unit_denial a d seen us)
@@ -247,18 +250,20 @@ abbrev pub kept_plan : Turn → ℕ → Bool → Content → Option (List ℕ) �
 kept_plan turn rule changed c text = record { reply = shown_or_done text; change = change_keeping changed c; row = allowed_row turn rule }
 
 -- The plan that stores a changed resource. Its reply has the JSON of the resource as the client sees it after
--- the change. `a` is the client's access before the change; the audit row names its rule on reading `id`.
+-- the change. `a` is the client's access before the change; the audit row has the rule that let the client
+-- read `id`.
 abbrev pub kept_change_plan : Viewer → Turn → List Content → Wanted → Access → Bool → Content → Plan
 kept_change_plan v turn cs wanted a changed c = kept_plan turn (a.read (simple Id)).rule changed c (kept_text v cs wanted c)
 
--- The plan of a change. The change is denied if it widens the client's access at a leaf; otherwise it is
--- stored.
+-- The plan of a change. If a leaf is given, the change widens the client's access at that leaf and is denied;
+-- otherwise the changed resource is stored.
 abbrev pub narrow_change_plan : Viewer → Turn → List Content → Wanted → Access → Bool → Content → Option (Op × Leaf × Decision) → Plan
 narrow_change_plan v turn cs wanted a changed c None = kept_change_plan v turn cs wanted a changed c
 narrow_change_plan v turn cs wanted a changed c (Some (op, l, d)) = denial_plan turn d l Widens
 
 -- The plan of a change. The change is refused if another resource, visible to the client or not, has a unique
--- name of the changed resource, denied if it widens the client's access, and stored otherwise.
+-- name of the changed resource. Otherwise it is denied if it widens the client's access. Otherwise the
+-- changed resource is stored.
 abbrev pub unique_change_plan : Viewer → Turn → List Content → Wanted → Access → Bool → Content → Plan
 unique_change_plan v turn cs wanted a changed c =
     if is_taken (without c.id cs) c then rejection_plan turn Taken else narrow_change_plan v turn cs wanted a changed c (widening c.kind a (access_to v c))
@@ -273,13 +278,13 @@ complete_change_plan v turn cs wanted a changed (Some c) = unique_change_plan v 
 abbrev pub writable_replacement_plan : Viewer → Turn → List Content → Draft → Wanted → Content → List AttributeUnit → Plan
 writable_replacement_plan v turn cs d wanted c us = complete_change_plan v turn cs wanted (access_to v c) (changes d us (rows c)) (replaced d us turn.moment c)
 
--- The plan of a PUT that is denied at a leaf, if one is given, and otherwise writes all units that the client
--- may write.
+-- The plan of a PUT. If a leaf is given, the PUT is denied at that leaf; otherwise it writes all units that
+-- the client may write.
 abbrev pub decided_replacement_plan : Viewer → Turn → List Content → Draft → Wanted → Content → Option (Leaf × Decision) → Plan
 decided_replacement_plan v turn cs d wanted c (Some (l, decision)) = denial_plan turn decision l Denied
 decided_replacement_plan v turn cs d wanted c None = writable_replacement_plan v turn cs d wanted c (writable c.kind (access_to v c))
 
--- The plan of a PUT of a draft to a resource that the client sees.
+-- The plan of a PUT to a resource that the client sees. A draft of another kind is refused.
 unfoldable pub replacement_plan : Viewer → Turn → List Content → Draft → Wanted → Content → Plan
 replacement_plan v turn cs d wanted c =
     if sameb the_kind d.kind c.kind
@@ -288,13 +293,13 @@ replacement_plan v turn cs d wanted c =
 
 -- ---- PATCH (RFC 7644 section 3.5.2)
 
--- The denied leaf and the decision on it, for the first of these units that the client may not write; `None`
--- if the client may write them all.
+-- For the first of these units that the client may not write: the denied leaf and the decision on that leaf.
+-- `None` if the client may write all of these units.
 abbrev pub first_forbidden : Kind → Access → List AttributeUnit → Option (Leaf × Decision)
 first_forbidden kind a [] = None
 first_forbidden kind a (u ∷ us) = or_else (forbidding kind a u) (first_forbidden kind a us)
 
--- The refusal for the fault of a step.
+-- The refusal that reports the fault of a PATCH step.
 abbrev pub step_refusal : StepFault → Refusal
 step_refusal fault.Mutability = Mutability
 step_refusal fault.NoTarget = NoTarget
@@ -306,13 +311,13 @@ abbrev pub applied_patch_plan : Viewer → Turn → List Content → Wanted → 
 applied_patch_plan v turn cs wanted c (Err e) = rejection_plan turn (step_refusal e)
 applied_patch_plan v turn cs wanted c (Ok (x, changed)) = unique_change_plan v turn cs wanted (access_to v c) changed x
 
--- The plan of a PATCH that is denied at a leaf, if one is given. Otherwise its steps are applied to the whole
--- stored resource, including the values that the client doesn't see.
+-- The plan of a PATCH. If a leaf is given, the PATCH is denied at that leaf. Otherwise its steps are applied
+-- to the whole stored resource, including the values that the client doesn't see.
 abbrev pub decided_patch_plan : Viewer → Turn → List Content → Patch → Wanted → Content → Option (Leaf × Decision) → Plan
 decided_patch_plan v turn cs p wanted c (Some (l, d)) = denial_plan turn d l Denied
 decided_patch_plan v turn cs p wanted c None = applied_patch_plan v turn cs wanted c (applied p turn.moment c)
 
--- The plan of a PATCH to a resource that the client sees.
+-- The plan of a PATCH to a resource that the client sees. A patch of another kind is refused.
 unfoldable pub patch_plan : Viewer → Turn → List Content → Patch → Wanted → Content → Plan
 patch_plan v turn cs p wanted c =
     if sameb the_kind p.kind c.kind
@@ -325,13 +330,13 @@ patch_plan v turn cs p wanted c =
 abbrev pub sought_resource : Turn → List Content → Option Content
 sought_resource turn cs = option_and_then (λ id. find (is_at turn.request.kind id) cs) turn.request.id
 
--- The plan of a request for a resource: `absence_plan` if it doesn't exist, `hidden_plan` if the client
--- doesn't see it, and otherwise the result of `plan`.
+-- The plan of a request for a resource: `absence_plan` if the resource doesn't exist, `hidden_plan` if the
+-- client doesn't see it, and otherwise the result of `plan` on the resource.
 abbrev pub plan_for_seen : Viewer → Turn → (Content → Plan) → Option Content → Plan
 plan_for_seen v turn plan None = absence_plan turn
 plan_for_seen v turn plan (Some c) = if (read_decision v c (simple Id)).allow then plan c else hidden_plan turn (read_decision v c (simple Id))
 
--- The plan of a request over the resources `cs`, by what it asks for.
+-- The plan of a request, by what the request asks for. `cs` are the stored resources.
 abbrev pub request_plan : Viewer → Turn → List Content → Result Ask Refusal → Plan
 request_plan v turn cs (Err refusal) = rejection_plan turn refusal
 request_plan v turn cs (Ok (Get wanted)) = plan_for_seen v turn (get_plan v turn cs wanted) (sought_resource turn cs)
@@ -341,14 +346,14 @@ request_plan v turn cs (Ok (Replace draft wanted)) = plan_for_seen v turn (repla
 request_plan v turn cs (Ok (PatchOne patch wanted)) = plan_for_seen v turn (patch_plan v turn cs (patch_of patch) wanted) (sought_resource turn cs)
 request_plan v turn cs (Ok Remove) = plan_for_seen v turn (removal_plan v turn) (sought_resource turn cs)
 
--- The viewer of a turn: the turn's client, with this policy and this base URI.
+-- The viewer of a request: the request's client, with this policy and this base URI.
 abbrev pub viewer_at : List Rule → List ℕ → Turn → Viewer
 viewer_at policy base turn = record { policy = policy; client = turn.request.client; base = base }
 
--- The plan of a turn: its reply, its change and its audit row.
+-- The plan for a request: the reply, the change to the store and the audit row.
 abbrev pub plan : List Rule → List ℕ → Turn → Store → Plan
 plan policy base turn store = request_plan (viewer_at policy base turn) turn store.resources turn.request.ask
 
--- The store after a turn.
+-- The store after a request.
 abbrev pub next_store : List Rule → List ℕ → Turn → Store → Store
 next_store policy base turn store = after (plan policy base turn store).change (plan policy base turn store).row store

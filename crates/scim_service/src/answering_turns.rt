@@ -20,10 +20,11 @@ use scim_text::{Failed, NoMemory, push};
 use scim_view::Viewer;
 use std::alloc::Global;
 
-/// Answers clients' requests, as a policy allows them, over the resources in a shelf.
+/// Answers clients' requests about the resources in a shelf, as far as a policy allows them.
 ///
-/// Each turn is planned first, which only reads the shelf. Then its change and its audit row are committed
-/// together, so the reply is complete before anything is changed.
+/// For each request, the service first plans the reply, the change and the audit row, and only reads the
+/// shelf. Then it commits the change together with the audit row, so the reply is complete before anything
+/// changes.
 pub struct Service<S> {
     policy: Policy,
     base: Text,
@@ -40,8 +41,8 @@ impl<S: Drop> Drop for Service<S> {
     }
 }
 
-/// Plans a turn, commits its change with its audit row, and returns its reply. On an error, the store is
-/// unchanged.
+/// Plans the reply to a request, commits the change to the store together with the audit row, and returns the
+/// reply. On an error, the store is unchanged.
 fn answer_or_fault<S: Shelf>(
     alloc: Global,
     viewer: &Viewer<'_>,
@@ -76,8 +77,8 @@ fn answer_or_fault<S: Shelf>(
 }
 
 impl<S: Shelf> Service<S> {
-    /// Returns a service with this policy, shelf and base URI, such as `http://127.0.0.1:8080`. The location
-    /// of each resource begins with the base URI. Doesn't allocate.
+    /// Returns a service with this policy, shelf and base URI. The location of each resource begins with the
+    /// base URI, such as `http://127.0.0.1:8080`. Doesn't allocate.
     pub fn new(policy: Policy, shelf: S, base: Text) -> Service<S>
         ensures policy { service_policy result ≡ policy }
         ensures base { service_base result ≡ base }
@@ -90,11 +91,11 @@ impl<S: Shelf> Service<S> {
         }
     }
 
-    /// Answers one turn. If the shelf fails or memory runs out, the reply is [`Reply::Failed`]; then nothing
-    /// is changed and no audit row is added.
+    /// Answers one request. If the shelf fails or memory runs out, the reply is [`Reply::Failed`]; then
+    /// nothing is changed and no audit row is added.
     ///
-    /// If the request is already refused with [`Refusal::Store`], the reply is that refusal, and no audit row
-    /// is added.
+    /// If memory ran out before the request could be read (its `ask` is the error [`Refusal::Store`]), the
+    /// reply is that refusal, and no audit row is added.
     pub fn answer(&mut self, alloc: Global, turn: &Turn) -> Reply
         ensures keeps { KeepsSetting self.old self.new }
         ensures answered { (store : Store) → S.stands (service_shelf self.old) store
@@ -123,8 +124,8 @@ impl<S: Shelf> Service<S> {
         }
     }
 
-    /// Answers turns in order, each as [`Service::answer`] does, and returns one reply for each. Fails only
-    /// if there is no memory for the list of replies; then no turn was answered.
+    /// Answers the requests in order with [`Service::answer`], and returns one reply for each. Fails only if
+    /// there is no memory for the list of replies; then no request was answered.
     pub fn run(&mut self, alloc: Global, turns: &[Turn]) -> Result<Vec<Reply>, NoMemory>
         ensures keeps { KeepsSetting self.old self.new }
         ensures each { IfOk result (λ replies. length replies.items ≡ length turns.now) }

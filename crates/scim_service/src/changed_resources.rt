@@ -61,8 +61,8 @@ fn changed_with(
     })
 }
 
-/// Returns the plan that refuses a changed resource because another resource has one of its unique names, or
-/// because the change widens the client's rights; `None` if the resource may be stored.
+/// Returns the plan that refuses a changed resource because another resource has one of the same unique
+/// names, or because the change widens the client's rights; `None` if the resource may be stored.
 fn refusal_to_change<S: Shelf>(
     alloc: Global,
     viewer: &Viewer<'_>,
@@ -91,8 +91,9 @@ fn refusal_to_change<S: Shelf>(
     }
 }
 
-/// Plans to store a resource after a change. `rights` are the client's rights to it before the change. The
-/// policy is evaluated once on the changed resource.
+/// Returns the plan that stores the changed resource. The plan is a refusal if another resource has one of
+/// the same unique names, or if the change widens the client's rights. `rights` are the client's rights to
+/// the resource before the change.
 pub(crate) fn plan_changed<S: Shelf>(
     alloc: Global,
     viewer: &Viewer<'_>,

@@ -43,7 +43,8 @@ fn is_decided(draft: &Draft, leaf: Leaf) -> bool
     leaf == Leaf::simple(Attribute::Id) || draft.gives(unit_of(leaf))
 }
 
-/// Returns the first of these leaves at which a create from the draft needs permission and is denied.
+/// Returns the first of `leaves` for which a create from the draft needs permission and `decisions` deny it;
+/// `None` if there is no such leaf.
 fn first_denied_of(decisions: &Decisions, draft: &Draft, leaves: &[Leaf]) -> Option<Leaf>
     ensures { result ≡ find (λ l. spec.is_decided draft.now l
         && not (decision decisions.now l).allow) leaves.now }
@@ -56,7 +57,8 @@ fn first_denied_of(decisions: &Decisions, draft: &Draft, leaves: &[Leaf]) -> Opt
     None
 }
 
-/// Returns the first leaf, in leaf order, at which a create from the draft needs permission and is denied.
+/// Returns the first leaf of the draft's kind, in leaf order, for which a create from the draft needs
+/// permission and `decisions` deny it; `None` if there is no such leaf.
 fn first_denied(decisions: &Decisions, draft: &Draft) -> Option<Leaf>
     ensures { result ≡ find (λ l. spec.is_decided draft.now l
         && not (decision decisions.now l).allow) (leaves draft.now.kind) }
@@ -64,7 +66,7 @@ fn first_denied(decisions: &Decisions, draft: &Draft) -> Option<Leaf>
     first_denied_of(decisions, draft, leaves(draft.kind()))
 }
 
-/// Whether a resource of either kind has the id.
+/// Whether a user or a group has the id.
 fn has_used_id<S: Shelf>(alloc: Global, shelf: &mut S, id: Id) -> Result<bool, Failed<ShelfFault>>
     ensures answer { IfOk result (Answers S.stands S.is_honest shelf.old shelf.new (λ store b. b
         ≡ is_used store.resources id)) }
@@ -107,8 +109,8 @@ fn made(
     })
 }
 
-/// Returns the plan that refuses to create a resource because another resource, visible to the client or not,
-/// has one of its unique names or its id; `None` if they are all free.
+/// Returns the plan that refuses to create a resource because an existing resource, visible to the client or
+/// not, has a unique name or the id of the new one; `None` if the names and the id are free.
 fn refusal_to_make<S: Shelf>(
     alloc: Global,
     shelf: &mut S,
@@ -131,7 +133,8 @@ fn refusal_to_make<S: Shelf>(
     Ok(None)
 }
 
-/// Plans the creation of this resource, which the policy allows by the rule with the number `rule`.
+/// Returns the plan that stores the new resource, or that refuses it if its id or a unique name is taken.
+/// `rule` is the number of the rule that allows the create.
 fn plan_if_free<S: Shelf>(
     alloc: Global,
     viewer: &Viewer<'_>,
@@ -157,7 +160,8 @@ fn plan_if_free<S: Shelf>(
     Ok(made(alloc, viewer, turn, resource, rule, text)?)
 }
 
-/// Plans a create from a draft.
+/// Returns the plan for a create from a draft. The plan is a refusal if the draft isn't one for this request,
+/// if the policy denies a leaf, or if a unique name or the id of the new resource is taken.
 #[tactic(auto, unfolding(crate::specs::Step::creation_plan))]
 pub(crate) fn plan_create<S: Shelf>(
     alloc: Global,

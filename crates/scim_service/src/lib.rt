@@ -1,5 +1,6 @@
 //! The service: answers clients' requests, one or several at a time (RFC 7644 section 3). Plans the reply,
-//! the change and the audit row of each request by the policy, and commits the change with the audit row.
+//! the change and the audit row of each request according to the policy, and commits the change with the
+//! audit row.
 #![tactic(auto)]
 
 mod answering_turns;

@@ -22,7 +22,7 @@ use scim_value::Resource;
 use scim_view::{Viewer, Wanted};
 use std::alloc::Global;
 
-/// Returns the refusal for the fault of a step.
+/// Returns the refusal that reports the fault of a PATCH step.
 fn step_refusal(fault: StepFault) -> Refusal
     ensures { result ≡ spec.step_refusal fault }
 {
@@ -33,8 +33,8 @@ fn step_refusal(fault: StepFault) -> Refusal
     }
 }
 
-/// Returns the denied leaf and the decision on it, for the first unit in the patch that the client may not
-/// write; `None` if the client may write them all.
+/// Finds the first unit in the patch that the client may not write. Returns the denied leaf of this unit and
+/// the decision on the leaf; `None` if the client may write all units in the patch.
 fn first_forbidden(rights: &Rights, patch: &Patch) -> Option<(Leaf, Decision)>
     ensures { result ≡ spec.first_forbidden patch.now.kind (access_in rights.now)
         (touched (patch_of patch.now)) }
@@ -52,7 +52,8 @@ fn first_forbidden(rights: &Rights, patch: &Patch) -> Option<(Leaf, Decision)>
     None
 }
 
-/// Plans a PATCH of a resource. The caller has checked that the client may write all units in the patch.
+/// Returns the plan that stores `resource` as the patch changes it, or that refuses the change. The caller
+/// has checked that the client may write all units in the patch.
 fn plan_allowed<S: Shelf>(
     alloc: Global,
     viewer: &Viewer<'_>,
@@ -78,7 +79,8 @@ fn plan_allowed<S: Shelf>(
     }
 }
 
-/// Plans a PATCH of a resource that the client sees.
+/// Returns the plan for a PATCH of `resource`, which the client sees. The plan is a refusal if the patch is
+/// of another kind or has a unit that the client may not write, or if the change can't be made.
 #[tactic(auto, unfolding(crate::specs::Step::patch_plan))]
 fn plan_seen<S: Shelf>(
     alloc: Global,
@@ -106,7 +108,8 @@ fn plan_seen<S: Shelf>(
     }
 }
 
-/// Plans a PATCH of the resource that the request names.
+/// Returns the plan for a PATCH of the resource that the request names. The plan is a refusal if there is no
+/// such resource or the client doesn't see it.
 pub(crate) fn plan_patch<S: Shelf>(
     alloc: Global,
     viewer: &Viewer<'_>,

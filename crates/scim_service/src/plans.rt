@@ -1,4 +1,4 @@
-//! Plans a turn. Planning reads the shelf, but changes nothing.
+//! Plans the reply to a request, the change to the store and the audit row. Only reads the shelf.
 ghost use Rattle.std.specs.Prelude.{◌≡◌, List, Some, IfOk};
 ghost use Rattle.scim_schema.specs.declared.Kind.{Kind};
 ghost use Rattle.scim_schema.specs.declared.Leaf.{Leaf};
@@ -31,7 +31,7 @@ use scim_value::Resource;
 use scim_view::{ListingGroups, Viewer, Wanted, project};
 use std::alloc::Global;
 
-/// The reply to a request, its change of the store and its audit row.
+/// The reply to a request, the change to the store and the audit row.
 pub(crate) struct Plan {
     pub(crate) reply: Reply,
     pub(crate) change: Change,
@@ -58,7 +58,7 @@ impl Plan {
     }
 }
 
-/// The fields of an audit row that don't come from the turn: decision, rule, leaf and refusal.
+/// The fields of an audit row that don't come from the request: decision, rule, leaf and refusal.
 #[derive(Clone, Copy)]
 pub(crate) struct Finding {
     pub(crate) decided: Decided,
@@ -67,7 +67,8 @@ pub(crate) struct Finding {
     pub(crate) refusal: Option<Refusal>,
 }
 
-/// Returns the audit row of a turn with this id and finding.
+/// Returns the audit row for a request, with `id` and the fields of `finding`. The other fields come from the
+/// request and its moment.
 pub(crate) fn row_of(
     alloc: Global,
     turn: &Turn,
@@ -90,7 +91,8 @@ pub(crate) fn row_of(
     })
 }
 
-/// Returns the plan that refuses a turn, with this decision, rule and leaf in its audit row.
+/// Returns the plan that replies to the request with `refusal`, and puts `decided`, `rule` and `leaf` in the
+/// audit row.
 pub(crate) fn refused_as(
     alloc: Global,
     turn: &Turn,
@@ -114,7 +116,7 @@ pub(crate) fn refused_as(
     })
 }
 
-/// Returns the plan that refuses a turn for a reason that isn't a decision of the policy.
+/// Returns the plan that refuses the request for a reason other than a decision of the policy.
 #[tactic(auto, unfolding(crate::specs::Step::rejection_plan))]
 pub(crate) fn refused(alloc: Global, turn: &Turn, refusal: Refusal) -> Result<Plan, NoMemory>
     ensures { IfOk result (λ plan. plan ≡ spec.rejection_plan turn.now refusal) }
@@ -122,7 +124,7 @@ pub(crate) fn refused(alloc: Global, turn: &Turn, refusal: Refusal) -> Result<Pl
     refused_as(alloc, turn, Decided::Refused, None, None, refusal)
 }
 
-/// Returns the plan that refuses a turn because there is no such resource.
+/// Returns the plan that refuses the request because the resource that it names doesn't exist.
 #[tactic(auto, unfolding(crate::specs::Step::absence_plan))]
 pub(crate) fn absent(alloc: Global, turn: &Turn) -> Result<Plan, NoMemory>
     ensures { IfOk result (λ plan. plan ≡ spec.absence_plan turn.now) }
@@ -130,7 +132,7 @@ pub(crate) fn absent(alloc: Global, turn: &Turn) -> Result<Plan, NoMemory>
     refused_as(alloc, turn, Decided::Absent, None, None, Refusal::NotFound)
 }
 
-/// Returns the plan that refuses a turn because, by this decision, the client may not read the resource's
+/// Returns the plan that refuses the request because `decision` doesn't let the client read the resource's
 /// `id`. The reply is the refusal `NotFound`, as if there were no such resource.
 #[tactic(auto, unfolding(crate::specs::Step::hidden_plan))]
 pub(crate) fn hidden(alloc: Global, turn: &Turn, decision: Decision) -> Result<Plan, NoMemory>
@@ -147,7 +149,7 @@ pub(crate) fn hidden(alloc: Global, turn: &Turn, decision: Decision) -> Result<P
     )
 }
 
-/// Returns the plan that refuses a turn because of the policy's decision at a leaf.
+/// Returns the plan that refuses the request because of `decision`, the policy's decision on `leaf`.
 #[tactic(auto, unfolding(crate::specs::Step::denial_plan))]
 pub(crate) fn denied(
     alloc: Global,
@@ -168,7 +170,7 @@ pub(crate) fn denied(
     )
 }
 
-/// Returns the audit row of a turn that the rule allows.
+/// Returns the audit row for a request that the rule with the number `rule` allows.
 pub(crate) fn allowed(alloc: Global, turn: &Turn, rule: u32) -> Result<AuditRow, NoMemory>
     ensures { IfOk result (λ row. row ≡ spec.allowed_row turn.now rule) }
 {
@@ -181,7 +183,8 @@ pub(crate) fn allowed(alloc: Global, turn: &Turn, rule: u32) -> Result<AuditRow,
     row_of(alloc, turn, turn.request.id, finding)
 }
 
-/// Returns the resource that the turn's request names; `None` if there isn't one.
+/// Returns the resource that the request names; `None` if the request names none or the resource doesn't
+/// exist.
 pub(crate) fn found<S: Shelf>(
     alloc: Global,
     shelf: &mut S,
@@ -198,7 +201,7 @@ pub(crate) fn found<S: Shelf>(
 }
 
 /// Returns the JSON of a resource as the client sees it, projected to the wanted attributes. `decisions` are
-/// the policy's decisions on reading the resource, and `groups` are the groups to list in it.
+/// the policy's decisions on reading the resource, and `groups` are the groups to list in the resource.
 #[tactic(auto, unfolding(crate::specs::Step::resource_text))]
 pub(crate) fn resource_text(
     alloc: Global,
@@ -240,8 +243,9 @@ fn seen_text<S: Shelf>(
     Ok(resource_text(alloc, viewer, decisions, &groups, resource, wanted)?)
 }
 
-/// Returns the JSON of a resource that the turn stores, as the client sees it; `None` if the client doesn't
-/// see it. `decisions` are the policy's decisions on reading the resource.
+/// Returns the JSON of a resource that the request stores, as the client sees the resource, projected to the
+/// wanted attributes; `None` if the client doesn't see the resource. `decisions` are the policy's decisions
+/// on reading the resource.
 pub(crate) fn kept_text<S: Shelf>(
     alloc: Global,
     viewer: &Viewer<'_>,
@@ -265,7 +269,7 @@ pub(crate) fn kept_text<S: Shelf>(
     Ok(Some(text))
 }
 
-/// Plans a GET of this resource.
+/// Returns the plan for a GET of `resource`. The plan is a refusal if the client doesn't see the resource.
 #[tactic(auto, unfolding(crate::specs::Step::get_plan))]
 fn plan_show<S: Shelf>(
     alloc: Global,
@@ -294,7 +298,8 @@ fn plan_show<S: Shelf>(
     })
 }
 
-/// Plans a GET of the resource that the request names.
+/// Returns the plan for a GET of the resource that the request names. The plan is a refusal if there is no
+/// such resource or the client doesn't see it.
 fn plan_get<S: Shelf>(
     alloc: Global,
     viewer: &Viewer<'_>,
@@ -314,7 +319,8 @@ fn plan_get<S: Shelf>(
     plan_show(alloc, viewer, shelf, turn, wanted, &resource)
 }
 
-/// Plans a DELETE of a resource that the client sees.
+/// Returns the plan for a DELETE of `resource`, which the client sees. The plan is a refusal if the policy
+/// doesn't let the client delete it.
 #[tactic(auto, unfolding(crate::specs::Step::removal_plan))]
 fn removed(
     alloc: Global,
@@ -339,7 +345,8 @@ fn removed(
     })
 }
 
-/// Plans a DELETE of this resource.
+/// Returns the plan for a DELETE of `resource`. The plan is a refusal if the client doesn't see the resource
+/// or may not delete it.
 fn removed_if_seen(
     alloc: Global,
     viewer: &Viewer<'_>,
@@ -360,7 +367,8 @@ fn removed_if_seen(
     removed(alloc, viewer, turn, resource)
 }
 
-/// Plans a DELETE of the resource that the request names.
+/// Returns the plan for a DELETE of the resource that the request names. The plan is a refusal if there is no
+/// such resource, or if the client doesn't see it or may not delete it.
 fn plan_remove<S: Shelf>(
     alloc: Global,
     viewer: &Viewer<'_>,
@@ -389,7 +397,8 @@ fn list_text(alloc: Global, found: Page, query: &Query) -> Result<Text, NoMemory
     Ok(Text::new(text))
 }
 
-/// Plans a search.
+/// Returns the plan for a search. The reply is a page of the resources that match the query, as the client
+/// sees them.
 #[tactic(auto, unfolding(crate::specs::Step::search_plan))]
 fn plan_search<S: Shelf>(
     alloc: Global,
@@ -417,7 +426,8 @@ fn plan_search<S: Shelf>(
     })
 }
 
-/// Plans a turn.
+/// Returns the plan for a request: the reply, the change to the store and the audit row. Only reads the
+/// shelf.
 pub(crate) fn planned<S: Shelf>(
     alloc: Global,
     viewer: &Viewer<'_>,

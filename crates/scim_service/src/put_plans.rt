@@ -59,7 +59,7 @@ fn is_questionable(rights: &Rights, draft: &Draft, unit: Unit) -> bool
         && rights.forbidding(draft.kind(), unit).is_some()
 }
 
-/// Whether the body gives at least one of these units that isn't readOnly and that the client may not write.
+/// Whether the body gives at least one of `units` that isn't readOnly and that the client may not write.
 fn is_any_questionable(rights: &Rights, draft: &Draft, units: &[Unit]) -> bool
     ensures { result ≡ list_any (is_in_question (access_in rights.now) draft.now) units.now }
 {
@@ -71,9 +71,9 @@ fn is_any_questionable(rights: &Rights, draft: &Draft, units: &[Unit]) -> bool
     false
 }
 
-/// Returns the denied leaf and the decision on it if the unit isn't readOnly, the client may not write it,
-/// and the body gives it values other than those that the client sees; `None` otherwise. `seen` is the
-/// resource as the client sees it.
+/// Returns the denied leaf and the decision on that leaf if the PUT is denied because of the unit; otherwise
+/// `None`. The PUT is denied if the unit isn't readOnly, the client may not write the unit, and the body
+/// gives the unit other values than the client sees. `seen` is the resource as the client sees it.
 fn unit_denied(
     alloc: Global,
     rights: &Rights,
@@ -90,8 +90,8 @@ fn unit_denied(
     Ok(rights.forbidding(draft.kind(), unit))
 }
 
-/// Returns the denied leaf and the decision on it, for the first of these units that `unit_denied` finds
-/// denied; `None` if no unit is denied.
+/// Calls `unit_denied` for each of `units` in order. Returns the first result that isn't `None`; `None` if no
+/// unit is denied.
 fn first_denied_among(
     alloc: Global,
     rights: &Rights,
@@ -111,9 +111,9 @@ fn first_denied_among(
     Ok(None)
 }
 
-/// Returns the denied leaf and the decision on it, for the first unit that `unit_denied` finds denied; `None`
-/// if no unit is denied. Computes what the client sees of the resource only if the body gives a unit that the
-/// client may not write.
+/// Calls `unit_denied` for each unit of the draft's kind in order. Returns the first result that isn't
+/// `None`; `None` if no unit is denied. Computes what the client sees of the resource only if the body gives
+/// a unit that isn't readOnly and that the client may not write.
 fn first_unit_denied(
     alloc: Global,
     viewer: &Viewer<'_>,
@@ -134,7 +134,9 @@ fn first_unit_denied(
     first_denied_among(alloc, rights, draft, &seen, own)
 }
 
-/// Plans a PUT whose body the policy allows.
+/// Returns the plan that writes the draft's values to all units that the client may write. The plan is a
+/// refusal if a required attribute would be missing, or if the changed resource can't be stored. The caller
+/// has checked that the policy doesn't deny the PUT.
 fn plan_allowed<S: Shelf>(
     alloc: Global,
     viewer: &Viewer<'_>,
@@ -162,7 +164,7 @@ fn plan_allowed<S: Shelf>(
     }
 }
 
-/// Plans a PUT to a resource that the client sees.
+/// Returns the plan for a PUT to `resource`, which the client sees.
 #[tactic(auto, unfolding(crate::specs::Step::replacement_plan))]
 fn plan_seen<S: Shelf>(
     alloc: Global,
@@ -190,7 +192,8 @@ fn plan_seen<S: Shelf>(
     }
 }
 
-/// Plans a PUT to the resource that the request names.
+/// Returns the plan for a PUT to the resource that the request names. The plan is a refusal if there is no
+/// such resource or the client doesn't see it.
 pub(crate) fn plan_replace<S: Shelf>(
     alloc: Global,
     viewer: &Viewer<'_>,

@@ -24,7 +24,8 @@ pub(crate) enum Reached {
     Told(Plan),
 }
 
-/// Reads the resource that the turn's request names, with the client's rights to it.
+/// Reads the resource that the request names and the client's rights to it. Returns the plan that refuses the
+/// request instead if there is no such resource or the client doesn't see it.
 pub(crate) fn reach<S: Shelf>(
     alloc: Global,
     viewer: &Viewer<'_>,

@@ -12,13 +12,14 @@ use scim_text::Failed;
 pub enum Reply {
     /// 200, with the JSON of a resource or of a list.
     Shown(Text),
-    /// 201: a resource was created. Has its location, and its JSON or `None` if the client doesn't see it.
+    /// 201: a resource was created. Has the location of the resource and its JSON, or `None` in place of the
+    /// JSON if the client doesn't see the resource.
     Created(Text, Option<Text>),
     /// 204: the request was carried out, and there is nothing to show.
     Done,
     /// A refusal.
     Refused(Refusal),
-    /// 500: nothing was done, because of this fault. The body doesn't name the fault.
+    /// 500: because of this fault, nothing was done. The reply's body doesn't name the fault.
     Failed(Failed<ShelfFault>),
 }
 

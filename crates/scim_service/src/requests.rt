@@ -13,24 +13,24 @@ use scim_schema::{Kind, Op};
 use scim_text::Moment;
 use scim_view::Wanted;
 
-/// The part of a request that says what to do with resources of its kind.
+/// What a request asks the service to do.
 pub enum Ask {
     /// GET: shows the resource that the request names, projected to the wanted attributes (RFC 7644 section
     /// 3.4.1).
     Get(Wanted),
     /// Search: shows the resources that the query finds (RFC 7644 section 3.4.2).
     Search(Query),
-    /// Create: makes a resource from a draft (RFC 7644 section 3.3), and shows its wanted attributes. The
-    /// draft must be of the request's kind, and must have been read to create a resource; any other draft is
-    /// refused with [`Refusal::MessageValue`].
+    /// Create: makes a resource from a draft (RFC 7644 section 3.3), and shows the wanted attributes of the
+    /// resource. The draft must be of the request's kind, and must have been read to create a resource; any
+    /// other draft is refused with [`Refusal::MessageValue`].
     Create(Draft, Wanted),
-    /// PUT: replaces the resource that the request names by the draft, as far as the policy lets the client
-    /// write it (RFC 7644 section 3.5.1), and shows its wanted attributes. The draft must be of the request's
-    /// kind; any other draft is refused with [`Refusal::MessageValue`].
+    /// PUT: writes the draft's values to the resource that the request names, for all attributes that the
+    /// client may write (RFC 7644 section 3.5.1), and shows the wanted attributes of the resource. The draft
+    /// must be of the request's kind; any other draft is refused with [`Refusal::MessageValue`].
     Replace(Draft, Wanted),
-    /// PATCH: changes the resource that the request names by the steps of a patch (RFC 7644 section 3.5.2),
-    /// and shows its wanted attributes. The patch must be of the request's kind; any other patch is refused
-    /// with [`Refusal::MessageValue`].
+    /// PATCH: applies the steps of a patch to the resource that the request names (RFC 7644 section 3.5.2),
+    /// and shows the wanted attributes of the resource. The patch must be of the request's kind; any other
+    /// patch is refused with [`Refusal::MessageValue`].
     Patch(Patch, Wanted),
     /// DELETE: removes the resource that the request names (RFC 7644 section 3.6).
     Remove,
@@ -57,8 +57,8 @@ pub struct Request {
     pub op: Op,
     /// The kind of the resources.
     pub kind: Kind,
-    /// The id of the resource that the request names; `None` if it names none, or if the name isn't a valid
-    /// id. With `None`, no resource is found.
+    /// The id of the resource that the request names; `None` if the request names no resource, or if the text
+    /// that names it isn't a valid id. With `None`, no resource is found.
     pub id: Option<Id>,
     /// What to do, or the refusal of a request that can't be read.
     pub ask: Result<Ask, Refusal>,
@@ -76,7 +76,7 @@ impl Drop for Request {
     }
 }
 
-/// A request with its moment and an id for the resource that it may create.
+/// A request, the moment of the request, and an id for a resource that the request may create.
 #[derive(Drop)]
 pub struct Turn {
     pub request: Request,
@@ -105,8 +105,8 @@ fn is_for_one(request: &Request) -> bool
     }
 }
 
-/// Returns the id of the resource that the turn's request is for; `None` if `is_for_one` says that the
-/// request isn't for one resource, even if it has an id.
+/// Returns the id of the request, if `is_for_one` says that the request is for one resource; otherwise
+/// `None`, even if the request has an id.
 #[tactic(auto, unfolding(crate::specs::Step::named_id))]
 pub(crate) fn named_id(turn: &Turn) -> Option<Id>
     ensures { result ≡ spec.named_id turn.now }

@@ -12,7 +12,7 @@ use scim_text::Failed;
 use scim_value::{Resource, UniqueName, unique_names};
 use std::alloc::Global;
 
-/// Whether a name has an owner other than the resource with the id `own`.
+/// Whether there is an owner, and its id isn't `own`.
 fn is_another(owner: &Option<Resource>, own: &Option<Id>) -> bool
     ensures { result ≡ spec.is_another own.now owner.now }
 {
@@ -25,7 +25,7 @@ fn is_another(owner: &Option<Resource>, own: &Option<Id>) -> bool
     }
 }
 
-/// Whether a resource other than the one with the id `own` has one of the names.
+/// Whether any resource whose id isn't `own` has one of `names`.
 fn any_taken<S: Shelf>(
     alloc: Global,
     shelf: &mut S,

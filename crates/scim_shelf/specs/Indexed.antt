@@ -42,8 +42,9 @@ abbrev pub picked : List Content → List (List ℕ) → List Content
 picked cs [] = []
 picked cs (id ∷ ids) = before (find (has_id id) cs) (picked cs ids)
 
--- The resources `all` consist of those in `left`, which must still be stored, and those in `cs`, which are
--- stored. No resource of `left` shares an id or a unique name with another one of `left` or of `cs`.
+-- `all` consists of the resources `left`, which must still be stored, and the resources `cs`, which are
+-- stored already. No resource of `left` shares an id or a unique name with another resource of `left` or
+-- `cs`.
 pub record AreLeft (all left cs : List Content) : Type 0 where
   pub members : IsPermutation all (left ++ cs)
   pub apart : AllPairs AreApart left

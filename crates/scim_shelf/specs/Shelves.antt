@@ -39,7 +39,7 @@ abbrev pub Answers : {H T : Type 0} → (H → Store → Type 0) → (H → Type
 Answers Stands IsHonest old new Answer x = (store : Store) → Stands old store → IsHonest new → Answer store x
 
 -- If the shelf is honest after a read, the value that the read returns satisfies `Fits` for the store,
--- provided that the store is valid: `IsStore` holds for some base URI.
+-- provided that the store is valid: `IsStore` is true for some base URI.
 abbrev pub IsReadFrom : {H T E : Type 0} → (H → Store → Type 0) → (H → Type 0) → H → H → Result T E → (Store → T → Type 0) → Type 0
 IsReadFrom Stands IsHonest old new result Fits =
     IfOk result (Answers Stands IsHonest old new (λ store x. (base : List ℕ) → IsStore base store → Fits store x))

@@ -56,11 +56,11 @@ has_name name c = list_any (is_same_name name) (unique_names c)
 abbrev pub is_taken : List Content → Content → Bool
 is_taken cs c = list_any (λ n. list_any (has_name n) cs) (unique_names c)
 
--- Whether one of the resources `cs`, of either kind, has the id (RFC 7643 section 3.1).
+-- Whether a user or group among `cs` has the id (RFC 7643 section 3.1).
 abbrev pub is_used : List Content → List ℕ → Bool
 is_used cs id = list_any (λ d. is_same_id id d.id) cs
 
--- The resource with the id, of either kind, if there is one (RFC 7643 section 3.1).
+-- The user or group with the id, if there is one (RFC 7643 section 3.1).
 abbrev pub of_id : List ℕ → List Content → Option Content
 of_id id cs = find (λ c. is_same_id id c.id) cs
 
@@ -68,15 +68,15 @@ of_id id cs = find (λ c. is_same_id id c.id) cs
 abbrev pub is_group_with : List ℕ → Content → Bool
 is_group_with value c = is_of Group c && lists_value value c
 
--- The resources whose id is below this one.
+-- The resources whose ids are less than `id`.
 abbrev pub below : List ℕ → List Content → List Content
 below id cs = filter (λ c. is_lt (slice_cmp nat_cmp c.id id)) cs
 
--- The resources whose id is above this one.
+-- The resources whose ids are greater than `id`.
 abbrev pub above : List ℕ → List Content → List Content
 above id cs = filter (λ c. is_gt (slice_cmp nat_cmp c.id id)) cs
 
--- The resources with `c` inserted in order of id, in place of the one with its id, if any.
+-- The resources with `c` inserted in order of id. A resource with the same id is replaced.
 abbrev pub keep : Content → List Content → List Content
 keep c cs = below c.id cs ++ c ∷ above c.id cs
 
@@ -91,14 +91,14 @@ changed Nothing cs = cs
 changed (Keep c) cs = keep c cs
 changed (Remove kind id) cs = without id cs
 
--- `old` is the resource, of either kind, that has the id of the change before the change is made, if any. For
--- `Nothing` it may be anything.
+-- `old` is the user or group that has the id of the change before the change is made, if any. For `Nothing`,
+-- `old` may be anything.
 abbrev pub IsOld : List Content → Change → Option Content → Type 0
 IsOld cs Nothing old = ⊤
 IsOld cs (Keep c) old = of_id c.id cs ≡ old
 IsOld cs (Remove kind id) old = of_id id cs ≡ old
 
--- The store after a change, with its audit row added at the end.
+-- The store after a change, with the audit row `row` added at the end.
 abbrev pub after : Change → AuditRow → Store → Store
 after change row store = record { resources = changed change store.resources; audit = store.audit ++ row ∷ [] }
 
@@ -106,14 +106,14 @@ after change row store = record { resources = changed change store.resources; au
 abbrev pub AreOf : Kind → List ℕ → List Content → Type 0
 AreOf kind id cs = All (λ d. d.id ≡ id → d.kind ≡ kind) cs
 
--- No resource of the other kind has the id of `c`, and no resource of another id shares a unique name with
+-- No resource of the other kind has the id of `c`, and no resource with another id shares a unique name with
 -- `c`.
 pub record HasPlace (cs : List Content) (c : Content) : Type 0 where
   pub kinds : AreOf c.kind c.id cs
   pub names : All (λ d. d.id ≢ c.id → AreApart c d) cs
 
 -- A change may be made. For `Keep`, no stored resource of the other kind has the id of `c`, and no stored
--- resource of another id shares a unique name with `c`.
+-- resource with another id shares a unique name with `c`.
 abbrev pub CanKeep : Store → Change → Type 0
 CanKeep store (Keep c) = HasPlace store.resources c
 CanKeep store _ = ⊤

@@ -26,7 +26,7 @@ use std::alloc::Global;
 /// until the cache is filled again. A commit that can't allocate a copy of its change fails before anything
 /// is changed. Audit rows are only in the shelf below.
 ///
-/// It doesn't see what others write to the shelf below: it is honest only while nobody else writes there.
+/// The cache misses what others write to the shelf below: it is correct only while nobody else writes there.
 #[derive(Drop)]
 pub struct CachedShelf<S> {
     /// The cache; `None` while reads go to the shelf below.
@@ -50,7 +50,7 @@ impl<S: Shelf> CachedShelf<S> {
     /// Reads all resources of the shelf below into the cache. No two of them may have the same id or share a
     /// unique name (RFC 7643 sections 2.2 and 3.1).
     ///
-    /// Fails with `Device` if the shelf below did, or with `NoMemory`. On any error the cache is unchanged:
+    /// Fails with `Device` if the shelf below does, or with `NoMemory`. On any error the cache is unchanged:
     /// if it wasn't filled, reads still go to the shelf below, so the caller may continue after `NoMemory`.
     pub fn fill(&mut self, alloc: Global) -> Result<(), Failed<ShelfFault>>
         ensures filled { OnOk result (IsFilled self.new) }

@@ -12,7 +12,7 @@ use std::alloc::Global;
 pub enum Change {
     /// No change: the commit only adds its audit row.
     Nothing,
-    /// Stores the resource, in place of the one with its id, if any.
+    /// Stores the resource. A stored resource with the same id is replaced.
     Keep(Resource),
     /// Removes the resource of this kind with this id.
     Remove(Kind, Id),

@@ -30,8 +30,8 @@ use std::collections::{BTreeMap, BTreeSet};
 /// The resources of a store in memory, indexed by id, by unique name and by member value.
 ///
 /// A look-up by id searches a tree. A look-up by unique name or by member value finds the ids in a hash table
-/// and then searches the tree for each id, without reading the members of any group. A change reads only the
-/// stored resource with its id.
+/// and then searches the tree for each id, without reading the members of any group. Making a change
+/// reads only the stored resource that has the id of the change.
 pub(crate) struct Collection {
     by_id: BTreeMap<Id, Resource>,
     owners: Owners,
@@ -48,7 +48,7 @@ impl Drop for Collection {
     }
 }
 
-/// Returns a copy of the resource, if any.
+/// Returns a copy of the resource; `None` if there is no resource.
 fn copy_of(alloc: Global, found: Option<&Resource>) -> Result<Option<Resource>, NoMemory>
     ensures { IfOk result (λ copy. copy ≡ option_copied found.entry) }
 {
@@ -117,7 +117,7 @@ impl Collection {
         copy_of(alloc, self.named(name))
     }
 
-    /// Returns the resource with the id, of either kind; `None` if there isn't one.
+    /// Returns the user or group with the id; `None` if there isn't one.
     fn with_id(&self, id: Id) -> Option<&Resource>
         ensures { (cs : List Content) → IsCollection cs self.now
             → option_copied result ≡ find (has_id id) cs }
@@ -125,8 +125,8 @@ impl Collection {
         self.by_id.get(&id)
     }
 
-    /// Returns the resource, of either kind, that currently has the id of the change; `None` if the id is
-    /// unused or the change is `Nothing`.
+    /// Returns the stored user or group that has the id of the change; `None` if the id is unused or the
+    /// change is `Nothing`.
     pub fn old_of(&self, change: &Change) -> Option<&Resource>
         ensures { (cs : List Content) → IsCollection cs self.now
             → IsOld cs change.now (option_copied result) }
@@ -171,7 +171,7 @@ impl Collection {
         }
     }
 
-    /// Returns the member values that `new` lists, but the stored group with its id doesn't. Their index
+    /// Returns the member values that `new` lists, but the stored group of the same id doesn't. Their index
     /// entries are added before `new` is stored.
     fn values_come(&self, alloc: Global, new: &Resource) -> Result<Vec<Text>, NoMemory>
         ensures { IfOk result (λ come. (cs : List Content) → IsCollection cs self.now
@@ -182,8 +182,8 @@ impl Collection {
         self.members.values_unnoted(alloc, members, new.id())
     }
 
-    /// Returns the members of `new` after the prefix that it shares with the stored group with its id. The
-    /// values of that prefix are indexed already. Returns all members if there is no stored group.
+    /// Returns the members of `new` after the prefix that `new` shares with the stored group of the same id.
+    /// The values in that prefix are already indexed. Returns all members if there is no stored group.
     fn members_to_note<'a>(&self, new: &'a Resource) -> &'a [Row]
         ensures { (cs : List Content) → IsCollection cs self.now → (v : List ℕ)
             → (is_value_of v result.now || is_group_in v (find (has_id new.now.id) cs))
@@ -195,8 +195,8 @@ impl Collection {
         }
     }
 
-    /// Makes the change. For `Keep` the caller guarantees that no resource of another id shares a unique name
-    /// with the new one, and that its id isn't used by a resource of the other kind.
+    /// Makes the change. For `Keep` the caller guarantees that no resource with another id shares a unique
+    /// name with the new resource, and that no resource of the other kind has the id of the new resource.
     ///
     /// On an error nothing is changed.
     pub fn make(&mut self, alloc: Global, change: Change) -> Result<(), NoMemory>
@@ -213,8 +213,8 @@ impl Collection {
         }
     }
 
-    /// Stores a resource, in place of the one with its id, if any. After an error every look-up returns what
-    /// it returned before.
+    /// Stores a resource. A stored resource with the same id is replaced. After an error every look-up
+    /// returns what it returned before the call.
     pub(crate) fn keep(&mut self, alloc: Global, resource: Resource) -> Result<(), NoMemory>
         ensures ok { OnOk result ((cs : List Content) → IsCollection cs self.old
             → HasPlace cs resource
@@ -235,8 +235,8 @@ impl Collection {
         Ok(())
     }
 
-    /// Stores the resource by its id, in place of the one with this id, if any, and adds the id to the index
-    /// of member values under the values `come`.
+    /// Stores the resource by its id, and adds the id to the index of member values under the values `come`.
+    /// A stored resource with the same id is replaced.
     ///
     /// On an error nothing is changed, provided that the id was indexed under none of these values before.
     fn insert(&mut self, alloc: Global, resource: Resource, come: &[Text]) -> Result<(), NoMemory>
@@ -262,7 +262,7 @@ impl Collection {
         }
     }
 
-    /// Removes the resource with the id, if any, of either kind. On an error nothing is changed.
+    /// Removes the user or group with the id, if there is one. On an error nothing is changed.
     fn remove(&mut self, alloc: Global, id: Id) -> Result<(), NoMemory>
         ensures ok { OnOk result ((cs : List Content) → IsCollection cs self.old
             → IsCollection (without id cs) self.new) }
@@ -298,7 +298,7 @@ impl Collection {
     }
 
     /// Passes the groups that list the value among their members to the visitor, in order of id (RFC 7643
-    /// section 4.2). It neither copies a group nor reads its members.
+    /// section 4.2). Neither copies a group nor reads its members.
     ///
     /// After an error the visitor is unusable.
     pub fn show_groups_with<V: Visitor>(

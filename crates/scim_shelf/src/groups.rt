@@ -82,7 +82,7 @@ pub(crate) fn members_beyond<'a>(other: &Resource, group: &'a Resource) -> &'a [
     &members[shared..]
 }
 
-/// Returns the values that the old group lists and the new one doesn't. A user lists none.
+/// Returns the member values that `old` lists and `new` doesn't. A user lists no values.
 pub(crate) fn values_beyond(
     alloc: Global,
     old: &Resource,
@@ -98,7 +98,7 @@ pub(crate) fn values_beyond(
     values_missing(alloc, members, new)
 }
 
-/// Returns the values of these members that the group doesn't list.
+/// Returns the `value`s of `members`, without those that `group` lists.
 fn values_missing(alloc: Global, members: &[Row], group: &Resource) -> Result<Vec<Text>, NoMemory>
     ensures { IfOk result (λ gone. (v : List ℕ)
         → is_one_of v gone.items ≡ (is_value_of v members.now && not (is_group_with v group.now))) }

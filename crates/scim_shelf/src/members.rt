@@ -65,8 +65,8 @@ impl Holders {
         Ok(())
     }
 
-    /// Removes the id from the set, and returns whether no other id is in it. In that case the set may still
-    /// contain the id, and the caller must drop the set.
+    /// Removes the id, and returns whether the set has no other id. If so, the id may still be in the set,
+    /// and the caller must drop the set.
     fn drops_last(&mut self, id: Id) -> bool
         ensures last { result ≡ true → (i : List ℕ)
             → cond (is_same id i) false (is_holder i self.old) ≡ false }
@@ -205,7 +205,7 @@ impl Members {
         noted
     }
 
-    /// Adds the id under each of these values. On an error it may have been added under some of them.
+    /// Adds the id under each of these values. On an error it may be under some of the values.
     fn note_each(&mut self, alloc: Global, values: &[Text], id: Id) -> Result<(), NoMemory>
         ensures ok { OnOk result ((v i : List ℕ)
             → is_noted self.new v i ≡ cond (is_one_of v values.now && is_same id i) true

@@ -20,7 +20,7 @@ const LAST_NUMBER: u64 = 9_223_372_036_854_775_807;
 
 /// A shelf in memory, with no device that could fail.
 ///
-/// It keeps its resources in a [`Collection`], and copies only those that it returns.
+/// Resources are kept in a [`Collection`]. Only resources that are returned are copied.
 pub struct MemoryShelf {
     collection: Collection,
     audit: Vec<AuditRow>,

@@ -20,7 +20,8 @@ use std::alloc::Global;
 pub trait Visitor {
     ghost use Rattle.scim_cell.specs.Content.{Content};
 
-    /// The relation between the visitor before a successful `take`, the resource, and the visitor after it.
+    /// The relation between the visitor before a successful `take`, the resource, and the visitor after the
+    /// call.
     ghost takes: { Self → Content → Self → Type 0 };
 
     /// Takes one resource, and copies the parts that it keeps. After an error the visitor is unusable.
@@ -73,7 +74,7 @@ pub trait Shelf {
     /// section 4.2).
     ///
     /// Fails as `by_id` does, and with `NoMemory` if the visitor can't allocate. After the error `Device` the
-    /// visitor has taken a prefix of these groups; after `NoMemory` it is unusable.
+    /// visitor has taken a prefix of these groups; after `NoMemory` the visitor is unusable.
     fn groups_with<V: Visitor>(
         &mut self,
         alloc: Global,
@@ -90,7 +91,7 @@ pub trait Shelf {
     /// Passes the resources of the kind to the visitor, in order of id.
     ///
     /// Fails as `by_id` does, and with `NoMemory` if the visitor can't allocate. After the error `Device` the
-    /// visitor has taken a prefix of these resources; after `NoMemory` it is unusable.
+    /// visitor has taken a prefix of these resources; after `NoMemory` the visitor is unusable.
     fn each<V: Visitor>(
         &mut self,
         alloc: Global,
@@ -106,8 +107,9 @@ pub trait Shelf {
     /// Makes the change and appends the row to the audit. The first audit row has number 1, and each other
     /// row has the number after the previous row.
     ///
-    /// For `Change::Keep` the caller guarantees, by `name_owner` and `by_id`, that no resource of another id
-    /// shares a unique name with the new one, and that its id isn't used by a resource of the other kind.
+    /// For `Change::Keep` the caller guarantees, by `name_owner` and `by_id`, that no resource with another
+    /// id shares a unique name with the new resource, and that no resource of the other kind has the id of
+    /// the new resource.
     ///
     /// Fails with `Device` if the device failed, and with `Full` if the last audit number, 2^63 - 1, is in
     /// use. On any error nothing is changed and no row is added.
@@ -122,8 +124,8 @@ pub trait Shelf {
             → stands self.new (after change row store)) }
         ensures commits { Commits stands is_honest failures self.old self.new result };
 
-    /// Commits as `commit` does, but the caller passes as `old` the resource, of either kind, that currently
-    /// has the id of the change, so that it needn't be read again. `old` is ignored for `Change::Nothing`.
+    /// Like `commit`, but the caller passes as `old` the stored user or group that has the id of the change,
+    /// if any, so that the shelf needn't read it again. `old` is ignored for `Change::Nothing`.
     fn commit_over(
         &mut self,
         alloc: Global,

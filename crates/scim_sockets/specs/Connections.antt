@@ -1,4 +1,5 @@
--- The state of a connection: what a turn read, and how much the connection took of the offered bytes.
+-- The state of a connection: the bytes that its turn read, and how many of the offered bytes it took. A turn
+-- is one unit of the connection's work.
 use Rattle.std.specs.Prelude.{◌≡◌, ◌≤◌, ◌⊎◌, ℕ, true, Option, None, Some, List, length}
 use Rattle.scim_sockets.specs.declared.connection.Connection.{Connection}
 use Rattle.scim_sockets.specs.declared.connection.Taking.{Taking}
@@ -29,11 +30,11 @@ abbrev pub FitsIn : List ℕ → Turn → Type 0
 FitsIn buffer (Piece count) = count ≤ length buffer
 FitsIn buffer _ = Unit {0}
 
--- there is a maximum, and at least that many connections were accepted
+-- the number of connections is limited, and at least the maximum number were accepted
 abbrev pub AreAccepted : Option ℕ → ℕ → Type 0
 AreAccepted None accepted = ⊥
 AreAccepted (Some most) accepted = most ≤ accepted
 
--- there is a maximum, at least that many connections were accepted, and no connection is open
+-- the number of connections is limited, at least the maximum number were accepted, and none is open
 abbrev pub IsOver : Option ℕ → ℕ → ℕ → Type 0
 IsOver most accepted left = AreAccepted most accepted × (left ≡ 0)

@@ -8,7 +8,7 @@ use std::io::{ErrorKind, Read, Write};
 use std::net::Shutdown;
 use std::time::{Duration, Instant};
 
-/// How much a connection has taken of the bytes that it was last offered.
+/// How many of the bytes that were last offered to a connection it has taken.
 #[derive(Clone, Copy, PartialEq, Eq)]
 enum Taking {
     /// It has taken all bytes.
@@ -19,7 +19,7 @@ enum Taking {
     More,
 }
 
-/// The result of a connection's turn.
+/// The result of a connection's turn, which is one unit of its work.
 #[derive(Clone, Copy)]
 pub(crate) enum Turn {
     /// There is no event to report.
@@ -32,7 +32,7 @@ pub(crate) enum Turn {
     Left,
 }
 
-/// An accepted connection that hasn't been reported as having left.
+/// An accepted connection. It is kept until its end has been reported as [`Turn::Left`].
 ///
 /// The system's reports are edge-triggered: it reports a socket as readable or writable once, and again only
 /// after a call returned `WouldBlock`. Therefore the connection remembers a report until a call returns
@@ -46,9 +46,9 @@ pub(crate) struct Connection {
     may_read: bool,
     // Whether the connection was shut: it takes no more bytes, and the bytes that it sends are dropped.
     is_shut: bool,
-    // Whether the connection is queued for a turn.
+    // Whether the connection is in the queue of connections with work to do.
     is_waiting: bool,
-    // The time at which it last sent or took bytes, was accepted, or was shut.
+    // The time at which the connection last sent or took bytes, was accepted, or was shut.
     last: Instant,
 }
 
@@ -67,7 +67,7 @@ impl Connection {
         }
     }
 
-    /// Notes a report of the system.
+    /// Records that the system has reported the socket as readable or writable.
     pub(crate) fn note(&mut self, can_read: bool, can_write: bool)
         ensures { IsBehind self.old → IsBehind self.new }
     {
@@ -77,8 +77,8 @@ impl Connection {
         }
     }
 
-    /// Returns whether the connection must be queued: it has work to do and isn't queued. If so, it counts as
-    /// queued afterwards.
+    /// Returns whether the connection must be queued: whether it has work to do and isn't queued. If so,
+    /// marks the connection as queued.
     pub(crate) fn begins_to_wait(&mut self) -> bool
         ensures { self.new.taking ≡ self.old.taking }
     {
@@ -92,10 +92,11 @@ impl Connection {
         begins
     }
 
-    /// Takes a turn: reads at most once. Bytes that were read are at the start of `buffer`.
+    /// Does the next work of the connection: reports its end, reports that it may take more bytes, or reads
+    /// at most once. Bytes that were read are at the start of `buffer`.
     ///
     /// A connection that hasn't taken all offered bytes isn't read. So the end of its stream is seen only
-    /// after it has taken its replies, and a client that has closed its sending side gets them.
+    /// after the connection has taken its replies, and a client that has closed its sending side gets them.
     pub(crate) fn turn(&mut self, now: Instant, buffer: &mut [u8]) -> Turn
         ensures fits { FitsIn buffer.new result }
         ensures behind { IsBehind self.old → IsUnread result × IsBehind self.new }
@@ -132,7 +133,8 @@ impl Connection {
         }
     }
 
-    /// Returns the result of a turn whose read failed. Ends the connection unless the error is temporary.
+    /// Returns the result of a turn in which the read failed. Ends the connection unless the error is
+    /// temporary.
     fn read_failed(&mut self, kind: ErrorKind) -> Turn
         ensures { IsUnread result }
     {
@@ -170,7 +172,7 @@ impl Connection {
                 self.taking = if count == bytes.len() {
                     Taking::All
                 } else {
-                    // It may take more: only `WouldBlock` means that it can't.
+                    // The connection may take more bytes: only `WouldBlock` means that it can't.
                     Taking::More
                 };
                 count
@@ -182,7 +184,7 @@ impl Connection {
         }
     }
 
-    /// Notes a failed write. Ends the connection unless the error is temporary.
+    /// Handles a failed write. Ends the connection unless the error is temporary.
     fn write_failed(&mut self, kind: ErrorKind)
         ensures { IsBehind self.new ⊎ TakesNothing self.new }
     {

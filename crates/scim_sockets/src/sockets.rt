@@ -20,8 +20,8 @@ use std::random::RandomSource;
 use std::time::{Clock, Duration, Instant};
 use thiserror::Error;
 
-/// The maximum number of bytes per read. All requests that a piece completes are answered before another
-/// connection has its turn, so a piece is short.
+/// The maximum number of bytes per read. All requests that a read completes are answered before another
+/// connection is served, so reads are short.
 const PIECE: usize = 4096;
 
 /// The maximum number of the system's reports per poll: one for the listener and one for each connection.
@@ -32,7 +32,7 @@ const REPORTS: usize = 1025;
 #[error("the port can't be listened at")]
 pub struct CannotListen;
 
-/// A listening socket, and the poll that reports on it and on the connections.
+/// A listening socket, and the poll that reports events of this socket and of the connections.
 #[derive(Drop)]
 struct Listening {
     poll: Poll,
@@ -63,7 +63,7 @@ struct Room {
 }
 
 impl Room {
-    /// Allocates the buffers, and returns them without open connections.
+    /// Allocates the buffers. No connection is open.
     fn new(alloc: Global) -> Result<Room, AllocError> {
         Ok(Room {
             turns: Turns::new(alloc)?,
@@ -72,14 +72,14 @@ impl Room {
         })
     }
 
-    /// Runs a turn of the connection with the number, and returns its result.
+    /// Does the next work of the connection with the number, and returns the result.
     fn turn(&mut self, number: u64, now: Instant) -> Turn
         ensures { FitsIn self.new.buffer.items result }
     {
         self.turns.turn(number, now, &mut self.buffer)
     }
 
-    /// Copies the first `count` bytes of the buffer, which the last turn read.
+    /// Returns a copy of the first `count` bytes of the buffer, which were read last.
     fn piece(&self, alloc: Global, count: usize) -> Result<Vec<u8>, AllocError>
         requires { count ≤ length self.now.buffer.items }
         ensures { IfOk result (λ bytes. bytes.items ≡ take count self.now.buffer.items) }
@@ -87,7 +87,7 @@ impl Room {
         Vec::from_slice(alloc, &self.buffer[..count])
     }
 
-    /// Polls the system and notes its reports. Doesn't wait if a turn is queued.
+    /// Polls the system and handles its reports. Doesn't wait if work is queued.
     fn wait(&mut self, poll: &mut Poll) -> io::Result<()> {
         let time = if self.turns.waiting() == 0 { WAIT } else { 0 };
         poll.poll(&mut self.events, Some(Duration::from_millis(time)))?;
@@ -119,7 +119,7 @@ pub struct Sockets<'r, R: Clock + RandomSource> {
     rt: &'r R,
     listening: Listening,
     room: Room,
-    // The number of turns until the next poll.
+    // The number of queue entries to process until the next poll.
     round: usize,
     // The number of accepted connections, which the next connection gets as its number.
     accepted: u64,
@@ -182,7 +182,7 @@ impl<'r, R: Clock + RandomSource> Sockets<'r, R> {
         }
     }
 
-    /// Whether the maximum number of connections was accepted and all have left.
+    /// Whether the maximum number of connections was accepted and no connection is open.
     fn is_over(&self) -> bool
         ensures { IsTrue result → IsOver self.now.most self.now.accepted
             (btree_map_len self.now.room.turns.connections) }
@@ -192,8 +192,8 @@ impl<'r, R: Clock + RandomSource> Sockets<'r, R> {
 
     /// Accepts a connection, if one is waiting and may join now.
     ///
-    /// If the system fails to accept one, for example because too many files are open, the attempt is
-    /// repeated after the next poll and after a connection has left.
+    /// If the system fails to accept a connection, for example because too many files are open, the attempt
+    /// is repeated after the next poll and after a connection has left.
     fn accept(&mut self) -> Option<PeerEvent> {
         if self.has_accepted_all() || self.room.turns.is_full() {
             return None;
@@ -232,10 +232,10 @@ impl<'r, R: Clock + RandomSource> Sockets<'r, R> {
         }
     }
 
-    /// Runs a turn of a connection, and returns its event, if any.
+    /// Does the next work of a connection, and returns the resulting event, if any.
     ///
-    /// Ends the connection if its piece can't be allocated, or can't be stamped because the clock or the
-    /// random source failed. The connection then leaves at its next turn.
+    /// Ends the connection if the piece that was read can't be allocated, or can't be stamped because the
+    /// clock or the random source failed. The connection then leaves when its next work is done.
     fn serve(&mut self, alloc: Global, number: u64) -> Option<PeerEvent> {
         match self.room.turn(number, self.time) {
             Turn::Nothing => None,
@@ -255,8 +255,8 @@ impl<'r, R: Clock + RandomSource> Sockets<'r, R> {
         }
     }
 
-    /// Polls the system, and ends late connections. All turns that are queued after that run before the next
-    /// poll.
+    /// Polls the system, and ends late connections. All work that is queued afterwards is done before the
+    /// next poll.
     fn wait(&mut self) -> io::Result<()> {
         self.room.wait(&mut self.listening.poll)?;
         self.time = Instant::now(self.rt)?;
@@ -268,7 +268,7 @@ impl<'r, R: Clock + RandomSource> Sockets<'r, R> {
         Ok(())
     }
 
-    /// Runs one turn, or polls if the round is over.
+    /// Processes one entry of the queue, or polls if `round` is 0.
     fn step(&mut self, alloc: Global) -> Result<Option<PeerEvent>, PeersFault> {
         if self.round == 0 {
             return match self.wait() {

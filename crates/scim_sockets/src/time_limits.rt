@@ -1,6 +1,6 @@
 //! How long the server waits for connections.
 
-/// The maximum time in milliseconds that a poll waits when no turn is queued.
+/// The maximum time in milliseconds that a poll waits when no work is queued.
 pub(crate) const WAIT: u64 = 250;
 
 /// The time in seconds between two searches for late connections.

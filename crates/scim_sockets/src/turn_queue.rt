@@ -1,4 +1,4 @@
-//! The open connections, and the queue of their turns.
+//! The open connections, and the queue of those that have work to do.
 ghost use Rattle.std.specs.Prelude.{◌≡◌, ◌<◌, ◌≤◌, ◌↔◌, IsTrue, length};
 ghost use Rattle.std.specs.BTreeMap.{btree_map_len};
 ghost use Rattle.scim_sockets.specs.Connections.{FitsIn};
@@ -16,10 +16,10 @@ const MOST_OPEN: usize = 1024;
 /// The token of the listener in the system's reports.
 pub(crate) const LISTENER: Token = Token(usize::MAX);
 
-/// An entry of the queue of turns.
+/// An entry of the queue: the listener or a connection.
 #[derive(Clone, Copy)]
 pub(crate) enum Place {
-    /// The listener, whose turn accepts a connection.
+    /// The listener, which accepts a connection.
     Door,
     /// The connection with this number.
     Connection(u64),
@@ -36,14 +36,14 @@ enum Door {
     Later,
 }
 
-/// The open connections, and the queue of their turns.
+/// The open connections, and the queue of those that have work to do.
 ///
-/// A connection with work to do is queued at most once. So a connection that sends bytes without a pause has
-/// one turn in each round, and the queue never outgrows its initial capacity.
+/// A connection with work to do is queued at most once. So a connection that sends bytes without a pause is
+/// read at most once between two polls, and the queue never outgrows its initial capacity.
 #[derive(Drop)]
 pub(crate) struct Turns {
     connections: BTreeMap<u64, Connection>,
-    // Its capacity suffices for the listener and all connections.
+    // The capacity suffices for the listener and all connections.
     queue: VecDeque<Place>,
     door: Door,
     ghost few: { btree_map_len connections ≤ 1024 },
@@ -73,7 +73,7 @@ impl Turns {
         self.connections.len() >= MOST_OPEN
     }
 
-    /// Returns the number of queued turns.
+    /// Returns the length of the queue.
     pub(crate) fn waiting(&self) -> usize {
         self.queue.len()
     }
@@ -98,7 +98,7 @@ impl Turns {
         }
     }
 
-    /// Notes that connections may be waiting to be accepted, and queues the listener unless it is queued.
+    /// Records that connections may be waiting to be accepted, and queues the listener unless it is queued.
     pub(crate) fn open_door(&mut self)
         ensures { self.new.connections ≡ self.old.connections }
     {
@@ -108,7 +108,7 @@ impl Turns {
         }
     }
 
-    /// Notes that no connection is waiting to be accepted.
+    /// Records that no connection is waiting to be accepted.
     pub(crate) fn close_door(&mut self) {
         self.door = Door::Empty;
     }
@@ -120,7 +120,7 @@ impl Turns {
         }
     }
 
-    /// Notes a report of the system, and queues the listener or the connection.
+    /// Handles a report of the system: queues the listener or the connection that the report is about.
     pub(crate) fn note(&mut self, event: &Event) {
         if event.token() == LISTENER {
             return self.open_door();
@@ -143,7 +143,8 @@ impl Turns {
         has_joined
     }
 
-    /// Runs a turn of the connection with the number, and removes the connection if it has ended.
+    /// Does the next work of the connection with the number, as [`Connection::turn`] does, and removes the
+    /// connection if it has ended.
     pub(crate) fn turn(&mut self, number: u64, now: Instant, buffer: &mut [u8]) -> Turn
         ensures { FitsIn buffer.new result }
     {
@@ -188,13 +189,13 @@ impl Turns {
         self.enqueue(number);
     }
 
-    /// Drops the sockets of the connections that are late by [`Connection::is_late`].
+    /// Drops the sockets of the connections for which [`Connection::is_late`] is true.
     pub(crate) fn end_late(&mut self, now: Instant, idle: Duration) {
         end_late(&mut self.connections, &mut self.queue, now, idle);
     }
 }
 
-/// Drops the sockets of late connections, and queues the connections so that their next turn removes them.
+/// Drops the sockets of late connections, and queues the connections so that they are removed.
 fn end_late(
     connections: &mut BTreeMap<u64, Connection>,
     queue: &mut VecDeque<Place>,

@@ -14,19 +14,19 @@ pub record HasStore (base : List ℕ) (s : State) (store : Store) : Type 0 where
   pub stands : IsTrue s.is_open → StandsFor base s.now store
   pub settled : IsTrue s.is_open → s.now ≡ s.committed
 
--- A change may be made to the store, and its audit row has the next number.
+-- A change may be made to the store, and `number` is the number of the next audit row.
 pub record IsDue (change : Change) (number : ℕ) (store : Store) : Type 0 where
   pub can : CanKeep store change
   pub next : number ≡ length store.audit + 1
 
--- A change may be made to the store, its audit row has the next number, and `old` is the stored resource with
--- the id of the change, if any.
+-- A change may be made to the store, `number` is the number of the next audit row, and `old` is the stored
+-- resource with the id of the change, if any.
 pub record IsDueOver (old : Option Content) (change : Change) (number : ℕ) (store : Store) : Type 0 where
   pub due : IsDue change number store
   pub was : IsOld store.resources change old
 
--- If the old tables hold a valid store to which the change may be made, the new ones hold the store after the
--- change with its audit row.
+-- If the old tables hold a valid store that satisfies `May`, the new tables hold the store after the change,
+-- with the audit row `row`.
 abbrev pub Changes : List ℕ → Change → AuditRow → (Store → Type 0) → Database → Database → Type 0
 Changes base change row May old new = (store : Store) → StandsFor base old store → May store → StandsFor base new (after change row store)
 

@@ -74,15 +74,15 @@ abbrev pub lists_in : List ℕ → Option Content → Bool
 lists_in value None = false
 lists_in value (Some c) = lists_value value c
 
--- The edits have the kind and a valid document of the resource `c`. If there is no resource, they have no
--- document.
+-- The edits have the kind and a valid document of the resource `c`. If there is no resource, the edits have
+-- no document.
 abbrev pub IsWritten : List ℕ → Option Content → Edits → Type 0
 IsWritten base None e = e.document ≡ None
 IsWritten base (Some c) e = (e.kind ≡ c.kind) × (text : List ℕ) × (option_map string_bytes e.document ≡ Some text) × IsDocumentText base text c
 
--- The edits replace the rows of the old resource with this id, if any, by the rows of the new one, if any.
--- They remove the names and member values that only the old resource has, and add the names and member values
--- that only the new resource has, each value once.
+-- The edits replace the rows of the old resource with this id, if any, by the rows of the new resource, if
+-- any. The edits remove the names and member values that only the old resource has, and add the names and
+-- member values that only the new resource has, each value once.
 pub record Replaces (base : List ℕ) (id : List ℕ) (old new : Option Content) (e : Edits) : Type 0 where
   pub is_id : IsId id
   pub text : e.id ≡ id_text id

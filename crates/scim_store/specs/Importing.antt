@@ -23,7 +23,7 @@ pub record HoldRowsOf (base : List ℕ) (cs : List Content) (db : Database) : Ty
 abbrev pub Fills : List Content → Database → Database → Type 0
 Fills cs old new = old.schema ≡ no_schema → (base : List ℕ) → All (HasBase base) cs → HoldRowsOf base cs new
 
--- The tables that a crash may leave because of an import. If the database was empty, these are the tables
--- with the rows of all these resources; otherwise there are none.
+-- Because of an import, a crash may leave these trees: the database was empty before, and the trees belong to
+-- tables with the rows of all these resources.
 abbrev pub LeavesImported : List ℕ → List Content → State → Trees → Type 0
 LeavesImported base cs s trees = (s.now.schema ≡ no_schema) × ((db : Database) × (trees ≡ db.trees) × HoldRowsOf base cs db × ((store : Store) → IsNewStore cs store → StandsFor base db store))

@@ -53,10 +53,10 @@ IsByAudit rows Foreign = CountsAudit rows None
 IsByAudit rows _ = ⊥
 
 -- The meaning of a result for a store of resources with locations below the base URI. `Empty`: the database
--- is empty. `Stands`: its tables hold a valid store with this many audit rows, all valid. `WrongVersion`: its
--- tables are of another version. `Damaged`: this is the least id with invalid rows. `Foreign`: it belongs to
--- another program, or has the tables of version 1, and the rows of each id are valid. The last three results
--- are returned only if the tables don't hold a valid store with valid audit rows.
+-- is empty. `Stands`: the tables hold a valid store with this many audit rows, all valid. `WrongVersion`: the
+-- tables are of another version. `Damaged`: this is the least id with invalid rows. `Foreign`: either another
+-- program made the database, or the tables are of version 1 and the rows of each id are valid. The last three
+-- results are returned only if the tables don't hold a valid store with valid audit rows.
 abbrev pub IsFor : List ℕ → Database → Examined → Type 0
 IsFor base db Empty = db.schema ≡ no_schema
 IsFor base db (Stands count) = (store : Store) × StandsFor base db store × All IsSound store.audit × (length store.audit ≡ count)

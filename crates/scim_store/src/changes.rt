@@ -21,7 +21,7 @@ use scim_value::{Resource, UniqueName, unique_names};
 use std::alloc::Global;
 use std::collections::BTreeSet;
 
-/// Returns the unique names of a resource, if any.
+/// Returns the unique names of the resource; an empty list if there is no resource.
 fn names_in(alloc: Global, resource: Option<&Resource>) -> Result<Vec<UniqueName>, NoMemory>
     ensures { IfOk result (λ names. map name_of names.items
         ≡ spec.names_in (option_copied resource.entry)) }
@@ -32,7 +32,7 @@ fn names_in(alloc: Global, resource: Option<&Resource>) -> Result<Vec<UniqueName
     }
 }
 
-/// Returns the unique names that `resource`, if any, has and `other`, if any, doesn't have.
+/// Returns the unique names of `resource` that `other` doesn't have. `None` counts as having no names.
 fn names_beyond(
     alloc: Global,
     other: Option<&Resource>,
@@ -58,7 +58,7 @@ pub(crate) fn values_of(alloc: Global, resource: &Resource) -> Result<BTreeSet<&
     )
 }
 
-/// Returns the set of the values that a resource, if any, lists among its members.
+/// Returns the set of the values that the resource lists among its members; empty if there is no resource.
 fn values_in(alloc: Global, resource: Option<&Resource>) -> Result<BTreeSet<&str>, NoMemory>
     ensures { IfOk result (λ values. (v : List ℕ)
         → is_in v values ≡ spec.lists_in v (option_copied resource.entry)) }
@@ -86,7 +86,8 @@ fn values_beyond<'v>(
     Ok(beyond)
 }
 
-/// Returns the edits that replace the old resource with this id, if any, by the new one, if any.
+/// Returns the edits that replace the rows of the resource `old` by the rows of `new`. Without `old`, they
+/// only add rows; without `new`, they only remove rows.
 fn replacement<'r>(
     alloc: Global,
     id: Id,
@@ -114,7 +115,7 @@ fn replacement<'r>(
     })
 }
 
-/// Returns the edits that store a resource. `old` must be the stored resource with its id, if any.
+/// Returns the edits that store a resource. `old` must be the stored resource with the same id, if any.
 pub(crate) fn edits_to_keep(
     alloc: Global,
     resource: &Resource,
@@ -128,8 +129,8 @@ pub(crate) fn edits_to_keep(
     replacement(alloc, part.id(), part.kind(), document, old, Some(resource))
 }
 
-/// Returns the edits of a change; `None` for `Change::Nothing`. `old` must be the stored resource with the id
-/// of the change, of either kind, if any.
+/// Returns the edits of a change; `None` for `Change::Nothing`. `old` must be the stored user or group that
+/// has the id of the change, if any.
 pub(crate) fn edits_of(
     alloc: Global,
     change: &Change,

@@ -81,7 +81,7 @@ fn keeps_below(alloc: Global, base: &str, change: &Change) -> Result<bool, NoMem
     }
 }
 
-/// Returns the stored resource with the id of a change, of either kind; `None` if there isn't one, or for
+/// Returns the stored user or group that has the id of the change. `None` if there isn't one, or for
 /// `Change::Nothing`.
 fn find_old_of<S: Alter>(
     conn: &mut Connection<S>,
@@ -109,11 +109,11 @@ fn find_old_of<S: Alter>(
 }
 
 /// Makes the change and adds the audit row with this number, in one transaction. `old` must be the stored
-/// resource with the id of the change, of either kind, if any; it is ignored for `Change::Nothing`.
+/// user or group that has the id of the change, if any. `old` is ignored for `Change::Nothing`.
 ///
 /// The caller guarantees that the number is one more than the number of the last row, or 1 for the first row.
 /// For `Change::Keep` the caller also guarantees that no resource with another id shares a unique name with
-/// the new resource, and that its id isn't used by a resource of the other kind.
+/// the new resource, and that no resource of the other kind has the id of the new resource.
 ///
 /// Fails with `OtherBase` if the resource to store has a location below another base URI, with `NoMemory` if
 /// memory runs out, or with the database's error, such as a constraint error if the number is in use. Then

@@ -159,8 +159,8 @@ fn is_row_of(row: &Row, resource: &Resource, document: &str) -> bool
         && has_text(row, 2, document)
 }
 
-/// Returns the document in the row of a resource; `None` if that column isn't a text. Fails with `Unreadable`
-/// if the text isn't UTF-8.
+/// Returns the document, the third column of a row of `resource`; `None` if it isn't a text. Fails with
+/// `Unreadable` if the text isn't UTF-8.
 fn document_of(row: &Row) -> Result<Option<&str>, Failed<Unreadable>>
     ensures { IfOk result (λ found. option_copied found ≡ code.text_in (column row.now 2)) }
 {

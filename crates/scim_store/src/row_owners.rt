@@ -21,14 +21,14 @@ use sqlite::types::ValueRef;
 use std::cmp::Ordering;
 use std::collections::BTreeSet;
 
-/// Returns the value at a place of a row; NULL if the row has no such column.
+/// Returns the value in the column at `place`; NULL if the row has no such column.
 pub(crate) fn value_in(row: &Row, place: usize) -> ValueRef<'_>
     ensures { owned result ≡ column row.now place }
 {
     row.get_ref(place).unwrap_or(ValueRef::Null)
 }
 
-/// Whether the value at a place of a row is the text.
+/// Whether the value in the column at `place` is the text.
 pub(crate) fn has_text(row: &Row, place: usize, text: &str) -> bool
     ensures { result ≡ tables.has_text place text.now row.now }
 {
@@ -67,7 +67,7 @@ fn is_start(rows: &[Row], text: &str, place: usize) -> bool
 }
 
 /// Returns how many rows have a first column below the text. The rows must be sorted by their first column.
-/// Tries `near` before it searches.
+/// Tries the index `near` before searching.
 fn start_of(rows: &[Row], text: &str, near: usize) -> usize
     ensures within { result ≤ length rows.now }
     ensures start { DoNotFall (0 ∷ []) rows.now

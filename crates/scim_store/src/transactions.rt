@@ -18,7 +18,7 @@ use scim_store_tables::{
 use scim_value::UniqueName;
 use sqlite::{Alter, Connection, Error, ErrorCode, Transaction};
 
-/// Deletes unique names.
+/// Deletes the rows of these unique names.
 fn delete_names<S: Alter>(tx: &mut Transaction<'_, S>, names: &[UniqueName]) -> Result<(), Error>
     ensures does { DoesIn S.Store tx.old tx.new result
         (λ old new. (lists : Lists) → Are old lists
@@ -30,7 +30,7 @@ fn delete_names<S: Alter>(tx: &mut Transaction<'_, S>, names: &[UniqueName]) -> 
     Ok(())
 }
 
-/// Inserts unique names with the id of the resource that has them.
+/// Inserts a row for each of these unique names, with the id of the resource that has the names.
 fn insert_names<S: Alter>(
     tx: &mut Transaction<'_, S>,
     id: &str,
@@ -46,7 +46,7 @@ fn insert_names<S: Alter>(
     Ok(())
 }
 
-/// Deletes members of a group.
+/// Deletes the rows of these members of a group.
 fn delete_members<S: Alter>(
     tx: &mut Transaction<'_, S>,
     group_id: &str,
@@ -64,7 +64,7 @@ fn delete_members<S: Alter>(
     Ok(())
 }
 
-/// Inserts members of a group.
+/// Inserts a row for each of these members of a group.
 fn insert_members<S: Alter>(
     tx: &mut Transaction<'_, S>,
     group_id: &str,
@@ -175,7 +175,7 @@ fn put_names_and_members<S: Alter>(tx: &mut Transaction<'_, S>, edits: &Edits) -
     insert_members(tx, edits.id.as_str(), edits.members_come.as_slice())
 }
 
-/// Inserts all rows that the edits add. The resource must not be stored.
+/// Inserts all rows that the edits add. The resource must not be stored yet.
 pub(crate) fn put_rows<S: Alter>(tx: &mut Transaction<'_, S>, edits: &Edits) -> Result<(), Error>
     ensures does { DoesIn S.Store tx.old tx.new result
         (λ old new. (lists : Lists) → Are old lists → Are new (record lists {

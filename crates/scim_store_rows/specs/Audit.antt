@@ -38,7 +38,7 @@ decided_number Hidden = 2
 decided_number Absent = 3
 decided_number Refused = 4
 
--- The number of a refusal, counted from 0. It is the same for `BadMethod` with any methods.
+-- The number of a refusal, counted from 0. `BadMethod` has the same number for any methods.
 abbrev pub refusal_number : Refusal → ℕ
 refusal_number refusal = number_of refusal - 1
 

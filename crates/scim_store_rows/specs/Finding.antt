@@ -42,6 +42,6 @@ pub record Shows {V : Type 0} (Takes : V → Content → V → Type 0) (kind : K
   pub took : FoldsTo Takes before (of_kind kind store.resources) after
   pub unchanged : IsUnchanged old new
 
--- The result is the resource with the id, of either kind, if any, and nothing is changed.
+-- The result is the user or group with the id, if any, and nothing is changed.
 abbrev pub FindsOld : List ℕ → Store → State → State → Option Content → Type 0
 FindsOld id store = IsFound (of_id id store.resources)

@@ -20,7 +20,7 @@ pub struct AuditTexts {
     leaf: Option<Text>,
 }
 
-/// Returns the text of an id, if any.
+/// Returns the text of the id; `None` if there is no id.
 fn id_of(alloc: Global, id: Option<Id>) -> Result<Option<Text>, NoMemory>
     ensures { IfOk result (λ text. text ≡ option_map id_text id) }
 {
@@ -30,7 +30,7 @@ fn id_of(alloc: Global, id: Option<Id>) -> Result<Option<Text>, NoMemory>
     }
 }
 
-/// Returns the path of a leaf, if any.
+/// Returns the path of the leaf; `None` if there is no leaf.
 fn leaf_of(alloc: Global, leaf: Option<Leaf>) -> Result<Option<Text>, NoMemory>
     ensures { IfOk result (λ text. text ≡ option_map rows.leaf_path leaf) }
 {

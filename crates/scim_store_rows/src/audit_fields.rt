@@ -59,7 +59,7 @@ pub(crate) fn moment_in(row: &Row, place: usize) -> Option<Moment>
     Moment::new(integer_in(row, place)?)
 }
 
-/// Returns the operation whose number is in a column; `None` if no operation has it.
+/// Returns the operation whose number is in a column; `None` if the column isn't the number of an operation.
 pub(crate) fn op_in(row: &Row, place: usize) -> Option<Op>
     requires { place < length row.now }
     ensures { ReadsBack Any (λ op. columns.number (spec.op_number op))
@@ -68,7 +68,7 @@ pub(crate) fn op_in(row: &Row, place: usize) -> Option<Op>
     op_of(number_in(row, place)?)
 }
 
-/// Returns the kind whose number is in a column; `None` if no kind has it.
+/// Returns the kind whose number is in a column; `None` if the column isn't the number of a kind.
 pub(crate) fn kind_in(row: &Row, place: usize) -> Option<Kind>
     requires { place < length row.now }
     ensures { ReadsBack Any (λ kind. columns.number (spec.kind_number kind))
@@ -77,7 +77,7 @@ pub(crate) fn kind_in(row: &Row, place: usize) -> Option<Kind>
     kind_of(number_in(row, place)?)
 }
 
-/// Returns the decision whose number is in a column; `None` if no decision has it.
+/// Returns the decision whose number is in a column; `None` if the column isn't the number of a decision.
 pub(crate) fn decided_in(row: &Row, place: usize) -> Option<Decided>
     requires { place < length row.now }
     ensures { ReadsBack Any (λ decided. columns.number (spec.decided_number decided))

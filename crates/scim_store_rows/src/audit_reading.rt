@@ -41,8 +41,8 @@ fn sql_number(number: u64) -> i64
 
 /// Reads the audit rows that a query returned for the numbers from `first` to `end`, exclusive. Fails with
 /// `DatabaseCorrupt` if a row isn't valid, and with `OutOfMemory` if memory runs out. Fails with `TooBig` if
-/// `end` is the largest number and there is a row for each number before it: then the row with the largest
-/// number, which the query can't include, may be missing.
+/// `end` is the largest number and there is a row for each number from `first` up to `end`: then the row with
+/// the largest number, which the query can't include, may be missing.
 fn read_span(alloc: Global, first: u64, end: u64, rows: &[Row]) -> Result<Vec<AuditRow>, Error>
     requires { first ≤ last_number }
     ensures read { IfOk result (λ read. audit_rows first read.items ≡ rows.now) }

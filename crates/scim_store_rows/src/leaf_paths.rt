@@ -13,7 +13,7 @@ fn attribute_in(attributes: &[Attribute], name: &str) -> Option<Attribute>
     attributes.iter().copied().find(|a| a.name() == name)
 }
 
-/// Returns the attribute with this name, of a user or of a group.
+/// Returns the attribute of users or groups that has this name.
 fn attribute_of(name: &str) -> Option<Attribute>
     ensures { ReadsBack Any attribute_name name.now result }
 {
@@ -37,8 +37,8 @@ fn sub_attribute_of(name: &str) -> Option<SubAttribute>
     sub_attribute_in(SubAttribute::all(), name)
 }
 
-/// Returns the attribute and the sub-attribute, if any, that a path names; `None` if a name is unknown. It
-/// isn't tested that the attribute has the sub-attribute.
+/// Returns the attribute and the sub-attribute, if any, that a path names; `None` if a name is unknown.
+/// Doesn't test that the attribute has the sub-attribute.
 fn named_in(path: &str) -> Option<Leaf>
     ensures { ReadsBack Any rows.leaf_path path.now result }
 {

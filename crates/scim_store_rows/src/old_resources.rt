@@ -17,7 +17,7 @@ use scim_value::Resource;
 use sqlite::{Alter, Connection, Error, params};
 use std::alloc::Global;
 
-/// Returns the document of the resource with an id, of either kind; `None` if there isn't one.
+/// Returns the document of the user or group with this id; `None` if there isn't one.
 fn find_document<S: Alter>(conn: &mut Connection<S>, id: &str) -> Result<Option<String>, Error>
     ensures mode { conn.old.in_transaction ≡ false → conn.new.in_transaction ≡ false }
     ensures survives { Survives (state S.Store conn.old) (state S.Store conn.new)
@@ -38,8 +38,7 @@ fn find_document<S: Alter>(conn: &mut Connection<S>, id: &str) -> Result<Option<
     first_text(rows.as_slice())
 }
 
-/// Returns the resource with the id, of either kind; `None` if there isn't one. Its location is below the
-/// base URI.
+/// Returns the user or group with the id; `None` if there isn't one. Its location is below the base URI.
 ///
 /// Fails with the database's error, with `OutOfMemory` if memory runs out, or with `DatabaseCorrupt` if the
 /// document isn't valid. Then the connection is closed, or its database is unchanged or as the last commit

@@ -23,9 +23,9 @@ use scim_value::Resource;
 use sqlite::{Alter, Connection, Error, ErrorCode, Row};
 use std::alloc::Global;
 
-/// Reads the resource of a row; `None` if it isn't of the kind. Fails with `DatabaseCorrupt` if the document
-/// isn't valid, with the database's error if a column has the wrong type, and with `OutOfMemory` if memory
-/// runs out.
+/// Reads the resource of a row; `None` if the resource isn't of the kind. Fails with `DatabaseCorrupt` if the
+/// document isn't valid, with the database's error if a column has the wrong type, and with `OutOfMemory` if
+/// memory runs out.
 fn read_row(alloc: Global, base: &str, kind: Kind, row: &Row) -> Result<Option<Resource>, Error>
     ensures { IfOk result (λ found. (e : Entry) → IsEntry base.now e → row.now ≡ resource_row e
         → option_to_list found ≡ of_kind kind (e.content ∷ [])) }
@@ -38,8 +38,8 @@ fn read_row(alloc: Global, base: &str, kind: Kind, row: &Row) -> Result<Option<R
     read_document(alloc, base, Some(document))
 }
 
-/// Passes the resource of a row to the visitor, if it is of the kind. Fails as `read_row` does, or with
-/// `OutOfMemory` if the visitor can't allocate. After any other error the visitor is unchanged.
+/// Passes the resource of a row to the visitor, if the resource is of the kind. Fails as `read_row` does, or
+/// with `OutOfMemory` if the visitor can't allocate. After any other error the visitor is unchanged.
 fn show_row<V: Visitor>(
     alloc: Global,
     base: &str,
@@ -65,7 +65,8 @@ fn show_row<V: Visitor>(
 /// locations are below the base URI.
 ///
 /// Fails as [`crate::find_by_id`] does, or with `OutOfMemory` if the visitor can't allocate. After
-/// `OutOfMemory` the visitor is unusable; after any other error it has taken a prefix of these resources.
+/// `OutOfMemory` the visitor is unusable; after any other error the visitor has taken a prefix of these
+/// resources.
 pub fn walk<S: Alter, V: Visitor>(
     conn: &mut Connection<S>,
     alloc: Global,

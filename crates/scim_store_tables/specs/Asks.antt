@@ -33,7 +33,7 @@ pub record IsAnswered (q : Query) (params : Row) (old new : State) (rows : List 
   pub unchanged : IsUnchanged old new
   pub answer : IsAnswer q (overlay old.now.trees []) params rows
 
--- The postcondition of running an SQL text. It begins no transaction. If the text is a query on the five
+-- The postcondition of running an SQL text. No transaction is begun. If the text is a query on the five
 -- tables, the rows are the result of the query, and a crash leaves only a state that a crash before the call
 -- could also leave. After an error the connection is closed, or its database is unchanged or as the last
 -- commit left it.

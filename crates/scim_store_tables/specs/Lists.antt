@@ -11,16 +11,16 @@ use Rattle.sqlite.specs.View.{is_int}
 use Rattle.sqlite.specs.Effect.{Database}
 use Rattle.scim_store_tables.specs.Tables.{store_schema}
 
--- The row that a query returns from a table of two columns.
+-- The row that a query returns for the row `r` of a table of two columns.
 abbrev pub pair : Row → Row
 pair r = column r 1 ∷ column r 2 ∷ []
 
--- The row that a query returns from a table of three columns.
+-- The row that a query returns for the row `r` of a table of three columns.
 abbrev pub triple : Row → Row
 triple r = column r 1 ∷ column r 2 ∷ column r 3 ∷ []
 
--- The row that a query returns from the audit; its number is the rowid, so the stored column `number` isn't
--- read.
+-- The row that a query returns for the row `r` of `audit`. The number is the rowid, so the stored column
+-- `number` isn't read.
 abbrev pub entry : Row → Row
 entry r = column r 0 ∷ column r 2 ∷ column r 3 ∷ column r 4 ∷ column r 5 ∷ column r 6 ∷ column r 7 ∷ column r 8 ∷ column r 9 ∷ column r 10 ∷ []
 
@@ -80,7 +80,7 @@ abbrev pub is_text : List ℕ → Value → Bool
 is_text text (Text other) = is_eq (slice_cmp nat_cmp other text)
 is_text text _ = false
 
--- Whether a row has the text at a place.
+-- Whether a row has the text in the column at `place`.
 abbrev pub has_text : ℕ → List ℕ → Row → Bool
 has_text place text row = is_text text (column row place)
 

@@ -55,6 +55,7 @@ pub record Undoes (old new : State) : Type 0 where
   pub now : IsTrue new.is_open → new.now ≡ old.committed
   pub committed : IsTrue new.is_open → new.committed ≡ old.committed
 
--- `trees` are the trees of some database to which `P` relates the old one. A commit writes them to the disk.
+-- `trees` are the trees of some database to which `P` relates the database `old`. A commit writes these trees
+-- to the disk.
 abbrev pub Leaves : (Database → Database → Type 0) → Database → Trees → Type 0
 Leaves P old trees = (db : Database) × (trees ≡ db.trees) × P old db

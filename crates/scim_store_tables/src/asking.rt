@@ -17,8 +17,8 @@ use sqlite::{Alter, Connection, Error, Row, params};
 
 /// Runs a query and returns all its rows.
 ///
-/// Fails with the database's error. Then the connection is closed, or its database is unchanged or as the
-/// last commit left it.
+/// Fails with the database's error. After an error the connection is closed, or its database is unchanged or
+/// as the last commit left it.
 pub fn ask<S: Alter>(
     conn: &mut Connection<S>,
     sql: &str,
@@ -98,7 +98,7 @@ pub fn find_owner<S: Alter>(
     first_text(rows.as_slice())
 }
 
-/// Reads all rows of a table, sorted. The columns aren't checked. Fails as [`ask`] does.
+/// Reads all rows of a table in sorted order. The columns aren't checked. Fails as [`ask`] does.
 pub(crate) fn read_rows<S: Alter>(conn: &mut Connection<S>, table: Table) -> Result<Vec<Row>, Error>
     ensures { OnlyAsks (λ db rows. AreRows table db rows.items) (state S.Store conn.old)
         (state S.Store conn.new) result }
@@ -106,8 +106,8 @@ pub(crate) fn read_rows<S: Alter>(conn: &mut Connection<S>, table: Table) -> Res
     ask(conn, rows_query(table), &[])
 }
 
-/// Reads the keys of a table, sorted. They are strictly ascending if no key occurs twice. Fails as [`ask`]
-/// does.
+/// Reads the keys of a table in sorted order. They are strictly ascending if no key occurs twice. Fails as
+/// [`ask`] does.
 pub(crate) fn read_keys<S: Alter>(conn: &mut Connection<S>, table: Table) -> Result<Vec<Row>, Error>
     ensures { OnlyAsks (λ db keys. AreKeys table db keys.items) (state S.Store conn.old)
         (state S.Store conn.new) result }
@@ -115,7 +115,7 @@ pub(crate) fn read_keys<S: Alter>(conn: &mut Connection<S>, table: Table) -> Res
     ask(conn, keys_query(table), &[])
 }
 
-/// Returns the ids of the groups that have a member with this value, sorted.
+/// Returns the sorted ids of the groups that have a member with this value.
 ///
 /// Fails as [`ask`] does.
 pub fn read_groups<S: Alter>(conn: &mut Connection<S>, value: &str) -> Result<Vec<Row>, Error>

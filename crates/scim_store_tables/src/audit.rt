@@ -12,7 +12,7 @@ use sqlite::{Alter, Error, Transaction, params};
 pub struct AuditColumns<'a> {
     /// The number of the row, which is its key.
     pub number: u64,
-    /// The time of the request, in seconds.
+    /// The time of the request, in seconds since 1970-01-01T00:00:00Z.
     pub moment: u64,
     /// The name of the client.
     pub client: &'a str,
@@ -24,9 +24,10 @@ pub struct AuditColumns<'a> {
     pub id: Option<&'a str>,
     /// The decision, as a number.
     pub decided: u32,
-    /// The number of the rule that decided; 0 if no rule matched.
+    /// The number of the rule that decided, or 0 if no rule matched; `None` if no single rule decided.
     pub rule: Option<u32>,
-    /// The path of the leaf that the rule denied, or would have allowed anew.
+    /// The path of the leaf at which the rule denied the request, or to which the change would have widened
+    /// access.
     pub leaf: Option<&'a str>,
     /// The refusal, as a number.
     pub refusal: Option<u32>,

@@ -40,7 +40,7 @@ fn is_bare(it: &Table) -> bool
         && !it.is_counted
 }
 
-/// Whether the only UNIQUE constraint is over these columns.
+/// Whether there is exactly one UNIQUE constraint, over the columns at `places`.
 fn is_only(uniques: &[Items<usize>], places: &[usize]) -> bool
     ensures yes { IsTrue result → uniques.now ≡ places.now ∷ [] }
     ensures no { result ≡ false → uniques.now ≢ places.now ∷ [] }
@@ -51,7 +51,7 @@ fn is_only(uniques: &[Items<usize>], places: &[usize]) -> bool
     }
 }
 
-/// Whether the only index order is ascending in all columns.
+/// Whether there is exactly one index order, ascending in all columns.
 fn is_plain(orders: &[Order]) -> bool
     ensures yes { IsTrue result → orders.now ≡ record { digits = 0 } ∷ [] }
     ensures no { result ≡ false → orders.now ≢ record { digits = 0 } ∷ [] }
@@ -242,7 +242,7 @@ fn are_audit_columns(all: &[Column]) -> bool
     }
 }
 
-/// Whether a table is `audit`, apart from its columns, which aren't compared.
+/// Whether a table is `audit`. The columns aren't compared.
 fn is_numbered(it: &Table) -> bool
     ensures yes { IsTrue result → it.now
         ≡ record audit_table { tree = 8; columns = it.now.columns } }

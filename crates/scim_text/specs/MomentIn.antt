@@ -1,6 +1,6 @@
 -- The reading of a moment's text, as a function of the text (RFC 7643 section 2.3.5).
--- Each part of a moment has a fixed place in its text. The function reads the parts from there, and accepts
--- them if they are valid and their text equals the given text.
+-- The function `moment_in` reads each part of the moment at its place in the text. It accepts the parts if
+-- they are valid and their text equals the given text.
 use Rattle.std.specs.Prelude.{◌≡◌, ◌↔◌, ℕ, ◌+◌, ◌*◌, ◌-◌, ◌==◌, nat_le, ◌&&◌, Bool, true, if◌then◌else◌, List, [], ◌∷◌, length, drop, take_while, slice_index, bytes_eq, Option, None, Some, pos}
 use Rattle.std.specs.Char.{is_ascii_digit}
 use Rattle.std.specs.Int.{is_in_range}
@@ -10,7 +10,7 @@ use Rattle.scim_text.specs.declared.moment_readings.Reading.{Reading}
 use Rattle.scim_text.specs.Spelling.{CivilDate, Clock, Zone, absent, utc, ahead, behind, Spelling, fraction_text, spelling_text}
 use Rattle.scim_text.specs.Readings.{reading_of, Spells}
 
--- the number in the two digits at a place; 48 is `0`
+-- the number in the two digits at byte offset `place`; 48 is `0`
 abbrev pub two_at : ℕ → List ℕ → ℕ
 two_at place text = (slice_index text place - 48) * 10 + (slice_index text (place + 1) - 48)
 
@@ -23,19 +23,19 @@ date_shown text =
 abbrev pub clock_shown : List ℕ → Clock
 clock_shown text = record { hour = two_at 11 text; minute = two_at 14 text; second = two_at 17 text }
 
--- the fraction in the text after the seconds: the digits after a point, which is 46
+-- the digits of the fraction in the text that follows the seconds; 46 is the point
 abbrev pub fraction_shown : List ℕ → List ℕ
 fraction_shown [] = []
 fraction_shown (mark ∷ rest) = if mark == 46 then take_while is_ascii_digit rest else []
 
--- the zone in the text after the fraction, by its first byte: 43 is `+` and 45 is `-`
+-- the zone in the text that follows the fraction; its first byte decides, where 43 is `+` and 45 is `-`
 abbrev pub zone_shown : List ℕ → Zone
 zone_shown [] = absent
 zone_shown (mark ∷ rest) =
     if mark == 43 then ahead (two_at 0 rest) (two_at 3 rest)
     else (if mark == 45 then behind (two_at 0 rest) (two_at 3 rest) else utc)
 
--- the parts of a moment at their places in a text
+-- the parts of a moment, each read at its place in the text
 abbrev pub spelling_shown : List ℕ → Spelling
 spelling_shown text =
     let rest = drop 19 text in
@@ -46,7 +46,7 @@ spelling_shown text =
       zone = zone_shown (drop (length (fraction_text fraction)) rest);
     }
 
--- whether the calendar has the date, in the years 1 to 9999
+-- whether the date exists in the calendar, and its year is from 1 to 9999
 abbrev pub is_date : CivilDate → Bool
 is_date d =
     is_in_range 1 9999 d.year && is_in_range 1 12 d.month
@@ -71,7 +71,7 @@ is_zone (behind hours minutes) = is_offset hours minutes
 abbrev pub is_spelling : Spelling → Bool
 is_spelling s = is_date s.date && is_clock s.clock && list_all is_ascii_digit s.fraction && is_zone s.zone
 
--- the reading of a text, or None if a part is invalid or the text of the parts differs from the given text
+-- the reading of a text, or None if a part is invalid or the parts, printed again, differ from the text
 unfoldable pub moment_in : List ℕ → Option Reading
 moment_in text =
     let shown = spelling_shown text in

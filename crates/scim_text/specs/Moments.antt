@@ -12,24 +12,24 @@ unfoldable pub last_passing : (ℕ → Bool) → ℕ → ℕ
 last_passing test zero = 0
 last_passing test (suc n) = if test (suc n) then suc n else last_passing test n
 
--- whether the date isn't after the day with this number, where 1970-01-01 is day 0
+-- whether the date is at or before the day with this number, where 1970-01-01 is day 0
 abbrev pub has_begun : ℕ → ℕ → ℕ → ℕ → Bool
 has_begun number year month day = int_le (days_from_civil (pos year) month day) (pos number)
 
--- the year of a day, by its number
+-- the year of the day with this number
 unfoldable pub year_of_day : ℕ → ℕ
 year_of_day number = last_passing (λ year. has_begun number year 1 1) 9999
 
--- the month of a day, by its number
+-- the month of the day with this number
 unfoldable pub month_of_day : ℕ → ℕ
 month_of_day number = last_passing (λ month. has_begun number (year_of_day number) month 1) 12
 
--- the day of the month of a day, by its number
+-- the day of the month of the day with this number
 unfoldable pub day_of_month : ℕ → ℕ
 day_of_month number =
     last_passing (λ day. has_begun number (year_of_day number) (month_of_day number) day) 31
 
--- the date of a day, by its number
+-- the date of the day with this number
 abbrev pub date_of_day : ℕ → CivilDate
 date_of_day number =
     record { year = year_of_day number; month = month_of_day number; day = day_of_month number }
@@ -53,7 +53,7 @@ unfoldable pub last_below : (ℕ → Bool) → ℕ → Option ℕ
 last_below test zero = None
 last_below test (suc n) = if test n then Some n else last_below test n
 
--- the moment with this text, or None if no moment has it
+-- the moment with this text, or None if no moment has this text
 unfoldable pub moment_of : List ℕ → Option ℕ
 moment_of text = last_below (λ n. bytes_eq (moment_text n) text) (last_moment + 1)
 

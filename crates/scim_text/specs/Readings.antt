@@ -18,7 +18,7 @@ day_number d = days_from_civil (pos d.year) d.month d.day
 abbrev pub clock_seconds : Clock → ℕ
 clock_seconds c = c.hour * 3600 + c.minute * 60 + c.second
 
--- hours and minutes, in seconds
+-- the number of seconds in these hours and minutes
 abbrev pub offset_seconds : ℕ → ℕ → ℕ
 offset_seconds hours minutes = hours * 3600 + minutes * 60
 
@@ -62,7 +62,7 @@ HasOneReading = (text : List ℕ) (a b : Reading) → Spells text a → Spells t
 abbrev pub PrintedReadsBack : Type 0
 PrintedReadsBack = (n : ℕ) → n ≤ last_moment → Spells (moment_text n) (record { second = pos n; later = false })
 
--- the order of readings: by second, and within a second the whole second comes first
+-- the order of readings: by second; within a second, a reading without a fraction comes first
 abbrev pub reading_cmp : Reading → Reading → Ordering
 reading_cmp = then_cmp (on (λ (r : Reading). r.second) int_cmp) (on (λ (r : Reading). r.later) bool_cmp)
 

@@ -5,11 +5,11 @@ use Rattle.std.specs.List.{list_all}
 use Rattle.std.specs.Char.{is_ascii_digit}
 use Rattle.jiff_core.specs.Calendar.{IsCivilDate}
 
--- a number below 100 in two digits
+-- the two digits of a number below 100
 abbrev pub two_digits : ℕ → List ℕ
 two_digits n = (48 + n / 10) ∷ (48 + n % 10) ∷ []
 
--- a number below 10000 in four digits
+-- the four digits of a number below 10000
 abbrev pub four_digits : ℕ → List ℕ
 four_digits n = two_digits (n / 100) ++ two_digits (n % 100)
 
@@ -68,7 +68,7 @@ zone_text (behind hours minutes) = codes "-" ++ offset_text hours minutes
 abbrev pub spelling_text : Spelling → List ℕ
 spelling_text s = date_text s.date ++ clock_text s.clock ++ fraction_text s.fraction ++ zone_text s.zone
 
--- the calendar has the date, in the years 1 to 9999
+-- the date exists in the calendar, and its year is from 1 to 9999
 pub record IsDate (d : CivilDate) : Type 0 where
   pub from_year_one : 1 ≤ d.year
   pub in_calendar : IsCivilDate (pos d.year) d.month d.day

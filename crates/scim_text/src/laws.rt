@@ -5,14 +5,14 @@ ghost use Rattle.scim_text.specs.Readings.{HasOneReading, PrintedReadsBack, Orde
 
 use crate::moment_readings::Reading;
 
-/// Lemma: a text has at most one reading. So the reading that [`crate::read_moment`] returns is the
-/// only one of the text.
+/// Lemma: a text denotes at most one instant. So [`crate::read_moment`] returns the only possible
+/// reading of the text.
 pub fn one_reading()
     ensures { HasOneReading }
 {}
 
-/// Lemma: the text of a moment reads as that moment, without a fraction. So [`crate::read_moment`]
-/// reads back what [`crate::print_moment`] prints.
+/// Lemma: the printed text of a moment denotes that moment, without a fraction. So
+/// [`crate::read_moment`] reads back what [`crate::print_moment`] prints.
 pub fn printed_reads_back()
     ensures { PrintedReadsBack }
 {}
@@ -29,14 +29,14 @@ pub fn moment_in_is_spelled()
     ensures { MomentInIsSpelled }
 {}
 
-/// Lemma: the derived order of readings is by second, and within a second the whole second comes
-/// first. It is a total order in which only equal readings compare as equal.
+/// Lemma: the derived order compares readings by second. Within a second, a reading without a fraction
+/// comes before a reading with one. This order is total, and only equal readings compare as equal.
 pub fn readings_are_ordered()
     ensures order { OrdersReadings ⟦<Reading as Ord>⟧.cmp }
     ensures total { ReadingsAreOrdered }
 {}
 
-/// Lemma: reading the printed texts of two moments keeps the order of the moments.
+/// Lemma: the readings of the printed texts of two moments are in the same order as the moments.
 pub fn printed_moments_are_ordered()
     ensures { PrintedInOrder }
 {}

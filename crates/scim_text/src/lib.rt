@@ -1,5 +1,5 @@
-//! The plain texts of SCIM: names and folded texts, compared without regard to case (RFC 7643
-//! section 2.1), and moments, written and read as the `dateTime` of RFC 7643 section 2.3.5.
+//! Compares names and folds texts without regard to case (RFC 7643 section 2.1), and prints and reads
+//! moments as the `dateTime` of RFC 7643 section 2.3.5.
 #![tactic(auto)]
 
 mod laws;

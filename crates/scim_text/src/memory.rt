@@ -1,4 +1,4 @@
-//! The error of a failed allocation, and an append that can return it.
+//! The error of a failed allocation, and a function that appends to a vector and can return this error.
 ghost use Rattle.std.specs.Prelude.{◌≡◌, ◌++◌, ◌∷◌, [], if◌then◌else◌, is_ok};
 
 use std::alloc::{AllocError, AllocFailed};
@@ -6,7 +6,7 @@ use std::error::Error as StdError;
 use std::fmt;
 use thiserror::Error;
 
-/// An allocation failed. A caller can only give up. A public function that returns this leaves the
+/// An allocation failed. A public function that returns this leaves the
 /// values that it borrows unchanged, unless its comment says otherwise.
 #[derive(Clone, Copy, Debug, PartialEq, Eq, Error)]
 #[error("out of memory")]
@@ -45,7 +45,7 @@ pub enum Failed<E> {
     NoMemory,
 }
 
-// Written by hand, because it prints the text of the fault.
+// Not derived, because `Because` must print the message of the error that it contains.
 impl<E: fmt::Display> fmt::Display for Failed<E> {
     fn fmt<W: fmt::Write>(&self, f: &mut fmt::Formatter<W>) -> fmt::Result {
         match self {

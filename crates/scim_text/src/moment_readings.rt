@@ -1,6 +1,6 @@
-//! Reads the text of a moment. Each private function reads one part of it. Its clause `found`
-//! states that the text contains the part that the function returns; `complete` states that the
-//! function finds the part if the text contains it.
+//! Reads the text of a moment. Each private function reads one part of the text. In its contract,
+//! `found` states that a returned part is in the text; `complete` states that the function returns a
+//! part if the text contains one.
 ghost use Rattle.std.specs.Prelude.{◌≡◌, length, take_while, drop, ◌≤◌, ◌<◌, ◌+◌, ◌*◌, ◌↔◌, ◌++◌, ◌∷◌, ℕ, List, IsOk, IfOk, IsSome, IfSome, IsSomeAnd, SomeIff, pos, string_bytes};
 ghost use Rattle.std.specs.Char.{is_ascii_digit};
 ghost use Rattle.std.specs.List.{prefix_len};
@@ -13,8 +13,8 @@ ghost use Rattle.scim_text.specs.MomentIn.{moment_in};
 use jiff_core::civil::Date;
 use thiserror::Error;
 
-/// The instant that the text of a moment denotes. Readings are ordered by second, and within a
-/// second the whole second comes first.
+/// The instant that the text of a moment denotes. Readings are ordered by second. Within a second, a
+/// reading without a fraction comes before a reading with a fraction.
 #[derive(Clone, Copy, PartialEq, Eq, PartialOrd, Ord)]
 pub struct Reading {
     /// The whole seconds since 1970-01-01T00:00:00Z, negative before it.
@@ -29,7 +29,7 @@ pub struct Reading {
 #[error("not a date and time of the form YYYY-MM-DDThh:mm:ssZ")]
 pub struct BadMoment;
 
-/// Reads a number up to `last` in two digits. Returns it with the rest of the text.
+/// Reads two digits as a number of at most `last`. Returns the number and the rest of the text.
 fn number(text: &[u8], last: u8) -> Option<(u8, &[u8])>
     requires { last < 100 }
     ensures found { IfSome result (λ p. (p.0 ≤ last) × (text.now ≡ two_digits p.0 ++ p.1.now)) }
@@ -49,7 +49,7 @@ fn number(text: &[u8], last: u8) -> Option<(u8, &[u8])>
     Some((number, rest))
 }
 
-/// The text after its first byte, if that is `mark`.
+/// Returns the text after its first byte, or `None` if the first byte isn't `mark`.
 fn after(text: &[u8], mark: u8) -> Option<&[u8]>
     ensures found { IfSome result (λ rest. text.now ≡ mark ∷ rest.now) }
     ensures complete { (rest : List ℕ) → text.now ≡ mark ∷ rest → IsSome result }
@@ -60,7 +60,7 @@ fn after(text: &[u8], mark: u8) -> Option<&[u8]>
     }
 }
 
-/// Reads `mark` and a number up to `last` in two digits. Returns the number with the rest of the
+/// Reads `mark`, then two digits as a number of at most `last`. Returns the number and the rest of the
 /// text.
 fn number_after(text: &[u8], mark: u8, last: u8) -> Option<(u8, &[u8])>
     requires { last < 100 }
@@ -72,8 +72,8 @@ fn number_after(text: &[u8], mark: u8, last: u8) -> Option<(u8, &[u8])>
     number(after(text, mark)?, last)
 }
 
-/// The number of the day, or `None` if the calendar doesn't have the day. Day 0 is 1970-01-01, and years
-/// begin with 1.
+/// Returns the number of days from 1970-01-01 to this date, negative for an earlier date. Returns `None`
+/// if the date doesn't exist in the calendar or `year` is 0.
 fn day_number(year: u16, month: u8, day: u8) -> Option<i64>
     requires year { year < 10000 }
     requires month { month < 100 }
@@ -91,7 +91,7 @@ fn day_number(year: u16, month: u8, day: u8) -> Option<i64>
     }
 }
 
-/// Reads a date. Returns the number of its day with the rest of the text.
+/// Reads a date. Returns the number of days since 1970-01-01 and the rest of the text.
 fn date(text: &[u8]) -> Option<(i64, &[u8])>
     ensures found { IfSome result (λ p. (d : CivilDate) × IsDate d × (p.0 ≡ day_number d)
         × (text.now ≡ date_text d ++ p.1.now)) }
@@ -107,7 +107,7 @@ fn date(text: &[u8]) -> Option<(i64, &[u8])>
     Some((day_number(year, month, day)?, rest))
 }
 
-/// Reads a time of day. Returns its seconds since midnight with the rest of the text.
+/// Reads `T` and a time of day. Returns the seconds since midnight and the rest of the text.
 fn clock(text: &[u8]) -> Option<(u32, &[u8])>
     ensures found { IfSome result (λ p. (c : Clock) × IsClock c × (p.0 ≡ clock_seconds c)
         × (text.now ≡ clock_text c ++ p.1.now)) }
@@ -124,7 +124,7 @@ fn clock(text: &[u8]) -> Option<(u32, &[u8])>
     ))
 }
 
-/// Reads the whole text as hours and minutes, such as `05:30`. Returns them in seconds.
+/// Reads the whole text as hours and minutes, such as `05:30`. Returns the total in seconds.
 fn offset(text: &[u8]) -> Option<u32>
     ensures found { IfSome result (λ o. (h m : ℕ) × IsOffset h m × (o ≡ offset_seconds h m)
         × (text.now ≡ offset_text h m)) }
@@ -139,8 +139,8 @@ fn offset(text: &[u8]) -> Option<u32>
     Some(u32::from(hours) * 3600 + u32::from(minutes) * 60)
 }
 
-/// Reads the whole text as a zone, such as `Z` or `+05:30`. Returns its offset from UTC in seconds,
-/// negative if it is behind UTC.
+/// Reads the whole text as a zone, such as `Z` or `+05:30`. Returns the offset of the zone from UTC in
+/// seconds, negative if the zone is behind UTC.
 fn zone(text: &[u8]) -> Option<i64>
     ensures found { IfSome result (λ o. (z : Zone) × IsZone z × (o ≡ zone_seconds z)
         × (text.now ≡ zone_text z)) }
@@ -177,8 +177,8 @@ fn digits(text: &[u8]) -> (&[u8], &[u8])
     text.split_at(digit_count(text))
 }
 
-/// Reads a point and at least one digit, if the text begins with a point. Returns whether one of
-/// the digits isn't `0`, with the rest of the text.
+/// Reads an optional fraction: a point and at least one digit. Returns whether the fraction is greater
+/// than zero, and the rest of the text. Returns `None` if no digit follows the point.
 fn fraction(text: &[u8]) -> Option<(bool, &[u8])>
     ensures found { IfSome result (λ p. (f : List ℕ) × IsFraction f × (p.0 ≡ is_above_zero f)
         × (text.now ≡ fraction_text f ++ p.1.now)) }
@@ -221,7 +221,7 @@ fn read_bytes(text: &[u8]) -> Option<Reading>
 /// Reads the text of a moment, such as `2024-02-29T23:59:59.5+05:30` (RFC 7643 section 2.3.5, RFC 3339
 /// section 5.6). The text is year, month and day, `T`, hours, minutes and seconds; then, optionally, `.`
 /// with one or more digits; then the zone. The zone is `Z`, or the hours and minutes by which the
-/// clock is ahead of UTC (`+`) or behind it (`-`), or is absent for UTC.
+/// clock is ahead of UTC (`+`) or behind UTC (`-`). A text without a zone is in UTC.
 ///
 /// Years go from 0001 to 9999, and the day must exist in the calendar. Hours go up to 23, minutes
 /// and seconds up to 59, also in the zone. `T` and `Z` are capital letters, and the text has

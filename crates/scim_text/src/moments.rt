@@ -91,7 +91,7 @@ fn civil(seconds: u64) -> DateTime
 }
 
 /// Prints a moment, such as `2024-01-01T00:00:00Z`: in UTC, in whole seconds (RFC 7643 section 2.3.5).
-/// [`crate::read_moment`] and [`read_printed_moment`] read it back.
+/// [`crate::read_moment`] and [`read_printed_moment`] read the text back.
 #[tactic(auto, unfolding(crate::specs::Moments::moment_text))]
 pub fn print_moment(alloc: Global, moment: Moment) -> Result<String, NoMemory>
     ensures { IfOk result (λ text. string_bytes text ≡ moment_text moment) }

@@ -15,8 +15,8 @@ pub fn same_name(a: &str, b: &str) -> bool
 }
 
 /// Returns the text in full Unicode case folding. Texts that differ only in case have the same
-/// folding, so texts of attributes that aren't `caseExact` (RFC 7643 section 2.2) are compared and
-/// looked up by it.
+/// folding. The server compares and looks up values by their folding if their attribute isn't
+/// `caseExact` (RFC 7643 section 2.2).
 #[tactic(auto, unfolding(crate::specs::Names::folded))]
 pub fn fold(alloc: Global, text: &str) -> Result<String, NoMemory>
     ensures { IfOk result (λ t. string_bytes t ≡ folded text.now) }

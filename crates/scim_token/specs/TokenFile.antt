@@ -24,7 +24,7 @@ says_nothing (b ∷ bs) = b == 35
 abbrev pub digest_in : List ℕ → Option (List ℕ)
 digest_in text = result_ok (decode_sized text 32)
 
--- the entry of a client with a digest; the error `BadDigest` if there is no digest
+-- the entry with this client and this digest; the error `BadDigest` if the digest is `None`
 abbrev pub entry_with : List ℕ → Option (List ℕ) → Result Entry LineFault
 entry_with client None = Err BadDigest
 entry_with client (Some digest) = Ok (record { client = client; digest = digest })
@@ -45,21 +45,21 @@ entry_in line =
 abbrev pub has_digest : List ℕ → Entry → Bool
 has_digest digest e = pointwise nat_eq digest e.digest
 
--- the entries with one more; the error `Twice` if another entry has its digest, or `TooMany` if there are
--- 10,000 entries already
+-- the entries `known` with `e` added; the error `Twice` if an entry of `known` has the digest of `e`, or
+-- `TooMany` if `known` has 10,000 entries already
 abbrev pub added : List Entry → Entry → Result (List Entry) LineFault
 added known e = if list_any (has_digest e.digest) known then Err Twice else if length known == MOST_TOKENS then Err TooMany else Ok (known ++ e ∷ [])
 
--- the entries with the entry that was read from a line added, or the first fault of the line
+-- the entries `known` with the entry of a line added, or the first fault of the line
 abbrev pub list_with_entry : List Entry → Result Entry LineFault → Result (List Entry) LineFault
 list_with_entry known (Ok e) = added known e
 list_with_entry known (Err fault) = Err fault
 
--- the entries after one more line is read, or the first fault of the line
+-- the entries after `line` is read, where `known` are the entries before it; or the first fault of the line
 abbrev pub after_line : List Entry → List ℕ → Result (List Entry) LineFault
 after_line known line = if says_nothing line then Ok known else list_with_entry known (entry_in line)
 
--- the result of the remaining lines, or the fault of line `n` if it has one
+-- the result of `rest`, which reads the lines after line `n`; or the fault of line `n` if it has one
 abbrev pub if_well : ℕ → Result (List Entry) LineFault → (List Entry → Result (List Entry) TokenFault) → Result (List Entry) TokenFault
 if_well n (Ok known) rest = rest known
 if_well n (Err cause) rest = Err (record { line = n; cause = cause })

@@ -7,7 +7,7 @@ pub enum LineFault {
     /// The line has no space.
     #[error("no space")]
     BadLine,
-    /// The text before the first space isn't the name of a client.
+    /// The text before the first space isn't a valid client name.
     #[error("client")]
     BadName,
     /// The text after the first space isn't 64 hex digits.
@@ -21,7 +21,7 @@ pub enum LineFault {
     TooMany,
 }
 
-/// The first faulty line of a token file, counted from 1, and its fault.
+/// The number of the first faulty line of a token file, counted from 1, and the fault of that line.
 #[derive(Clone, Copy, Debug, PartialEq, Eq, Error)]
 #[error("line {line}: {cause}")]
 pub struct TokenFault {

@@ -38,7 +38,7 @@ impl Tokens {
         Tokens::of_lines(alloc, lines.as_slice())
     }
 
-    /// Reads the lines of a token file.
+    /// Reads the lines of a token file. Fails with the first faulty line and the first fault of that line.
     fn of_lines(alloc: Global, lines: &[&str]) -> Result<Tokens, Failed<TokenFault>>
         ensures { UnlessMemory (Reads (spec.entries_from 1 [] (map (λ l. l.now) lines.now)))
             result }
@@ -68,7 +68,7 @@ impl Tokens {
         self.clients.get(&digest).map(|client| client.as_str())
     }
 
-    /// Adds the entry in a line. Ignores a line that is empty or a comment.
+    /// Reads a line and adds its entry. Ignores a line that is empty or a comment.
     ///
     /// Fails with the first fault of the line, if it has one; then the tokens are unchanged.
     fn take_line(&mut self, alloc: Global, line: &str) -> Result<(), Failed<LineFault>>

@@ -11,7 +11,7 @@ use Rattle.scim_cell.specs.Rows.{Row, rows, content, cell_at, AreSound}
 abbrev pub PartsHaveSoundRows : Type 0
 PartsHaveSoundRows = (c : Content) → IsPart c → AreSound c.kind (rows c)
 
--- valid rows are the rows of the part made from them
+-- a part that is made from valid rows has exactly those rows
 abbrev pub SoundRowsMakeAPart : Type 0
 SoundRowsMakeAPart = (kind : Kind) (id : List ℕ) (rs : List Row) → AreSound kind rs → IsPart (content kind id rs) × (rows (content kind id rs) ≡ rs)
 
@@ -19,6 +19,6 @@ SoundRowsMakeAPart = (kind : Kind) (id : List ℕ) (rs : List Row) → AreSound 
 abbrev pub RowsDetermineCells : Type 0
 RowsDetermineCells = (c d : Content) → IsPart c → IsPart d → c.kind ≡ d.kind → c.id ≡ d.id → rows c ≡ rows d → c ≡ d
 
--- the atom at a position of a leaf is in the row with this index among the rows of the leaf's unit
+-- the atom at position k of a leaf is in the row with index k among the rows of the leaf's unit
 abbrev pub CellsStandInRows : Type 0
 CellsStandInRows = (c : Content) → IsPart c → (l : Leaf) (k : ℕ) → get c.cells (place_at l k) ≡ cell_at l k (rows c)

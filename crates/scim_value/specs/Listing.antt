@@ -21,7 +21,7 @@ cell_with l k (Some a) = (place_at l k, a) ∷ []
 abbrev pub value_cells : Attribute → ℕ → Row → List Entry
 value_cells a k r = flat_map (λ b. cell_with (leaf_at a b) k (atom_in (leaf_at a b) r.fields)) (sub_attributes_by_place a)
 
--- the cells of some values of a multi-valued attribute, the first of which is at this position
+-- the cells of consecutive values of a multi-valued attribute; the first value is at position `k`
 abbrev pub values_cells : Attribute → ℕ → List Row → List Entry
 values_cells a k [] = []
 values_cells a k (r ∷ rs) = value_cells a k r ++ values_cells a (k + 1) rs
@@ -34,7 +34,6 @@ single_cells a rs = flat_map (λ l. cell_with l 0 (cell_at l 0 rs)) (leaves_with
 abbrev pub attribute_cells : List Row → Attribute → List Entry
 attribute_cells rs a = if is_multi_valued a then values_cells a 0 (values (whole a) rs) else single_cells a rs
 
--- the cells of a part, in order of place, are the cells of each attribute of its kind, one attribute after
--- another
+-- in order of place, the cells of a part are listed attribute by attribute, in the order of `attributes`
 abbrev pub CellsAreListed : Type 0
 CellsAreListed = (c : Content) → IsPart c → entries c.cells ≡ flat_map (attribute_cells (rows c)) (attributes c.kind)

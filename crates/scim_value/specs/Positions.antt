@@ -1,4 +1,4 @@
--- The number of positions of an attribute that have cells, in terms of the map of cells.
+-- The number of positions of an attribute that have cells, defined by the map of cells.
 use Rattle.std.specs.Prelude.{◌≡◌, ◌<◌, ◌≤◌, ◌↔◌, ℕ, false, IsSome}
 use Rattle.std.specs.FinMap.{get}
 use Rattle.scim_schema.specs.declared.Attribute.{Attribute}

@@ -49,12 +49,14 @@ abbrev pub IsFilled : Option Atom → Type 0
 IsFilled (Some (Text t)) = t ≢ []
 IsFilled _ = ⊥
 
--- the part has the name that the kind requires: a user a `userName` that isn't empty, a group a `displayName`
+-- the part has the name that the kind requires: for a user, a `userName` that isn't empty; for a group, a
+-- `displayName`
 abbrev pub IsNamedAs : Kind → Content → Type 0
 IsNamedAs User c = IsFilled (first_at (simple UserName) c)
 IsNamedAs Group c = IsSome (first_at (simple DisplayName) c)
 
--- a user has a `userName` that isn't empty (RFC 7643 section 4.1.1), a group a `displayName` (section 4.2)
+-- a user has a `userName` that isn't empty (RFC 7643 section 4.1.1), and a group has a `displayName` (section
+-- 4.2)
 abbrev pub IsNamed : Content → Type 0
 IsNamed c = IsNamedAs c.kind c
 
@@ -75,8 +77,8 @@ abbrev pub IsShort : Atom → Type 0
 IsShort (Text t) = length t ≤ LONGEST_VALUE
 IsShort _ = Unit {0}
 
--- a field that a resource may have: not of `groups`, which is computed, nor of a writeOnly leaf (RFC 7643
--- sections 4.1.2 and 7), and with a text of at most 65,536 bytes unless it is `meta.location`
+-- a resource may have the field: it isn't in `groups`, which the server computes, and isn't at a writeOnly
+-- leaf (RFC 7643 sections 4.1.2 and 7), and a text has at most 65,536 bytes except at `meta.location`
 pub record MayBeKept (kind : Kind) (f : Field) : Type 0 where
   pub own : f.leaf.attribute ≢ Groups
   pub shown : (characteristics_of kind f.leaf).mutability ≢ WriteOnly

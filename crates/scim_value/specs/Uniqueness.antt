@@ -12,16 +12,16 @@ use Rattle.scim_value.specs.declared.uniqueness.UniqueName.{UniqueName}
 use Rattle.scim_cell.specs.Content.{Content}
 use Rattle.scim_value.specs.Resource.{first_at}
 
--- a unique name: its leaf, and the text by which it is compared with other names
+-- a value that at most one resource may have: the leaf, and the text that comparisons use
 pub record Name : Type 0 where
   pub leaf : Leaf
   pub text : List ℕ
 
--- a stored name, with the bytes of its text
+-- the leaf of a `UniqueName` and the bytes of its text
 abbrev pub name_of : UniqueName → Name
 name_of n = record { leaf = n.leaf; text = string_bytes n.text }
 
--- the text by which a name is compared: folded, unless the leaf is caseExact (RFC 7643 section 2.2)
+-- the text that comparisons of a name use: folded unless the leaf is caseExact (RFC 7643 section 2.2)
 abbrev pub known_text : Kind → Leaf → List ℕ → List ℕ
 known_text kind l t = if (characteristics_of kind l).case_exact then t else folded t
 
@@ -30,7 +30,7 @@ abbrev pub name_at : Kind → Leaf → Option Atom → List Name
 name_at kind l (Some (Text t)) = record { leaf = l; text = known_text kind l t } ∷ []
 name_at kind l _ = []
 
--- the unique names of a resource, in the order of the table
+-- the unique names of a resource, in the order of `unique_leaves`
 abbrev pub unique_names : Content → List Name
 unique_names c = flat_map (λ l. name_at c.kind l (first_at l c)) (unique_leaves c.kind)
 

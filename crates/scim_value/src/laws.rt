@@ -2,7 +2,7 @@
 ghost use Rattle.scim_value.specs.Laws.{PartsHaveSoundRows, SoundRowsMakeAPart, RowsDetermineCells, CellsStandInRows};
 ghost use Rattle.scim_value.specs.Listing.{CellsAreListed};
 
-/// Lemma: the rows of each part are valid, and valid rows are the rows of the part made from them.
+/// Lemma: the rows of each part are valid, and a part that is made from valid rows has exactly those rows.
 pub fn parts_are_sound_rows()
     ensures sound { PartsHaveSoundRows }
     ensures made { SoundRowsMakeAPart }
@@ -13,14 +13,14 @@ pub fn rows_determine_cells()
     ensures { RowsDetermineCells }
 {}
 
-/// Lemma: the atom at a position of a leaf is in the row with this index among the rows of the leaf's
+/// Lemma: the atom at position k of a leaf is in the row with index k among the rows of the leaf's
 /// unit.
 pub fn cells_stand_in_rows()
     ensures { CellsStandInRows }
 {}
 
-/// Lemma: the cells of a part, in order of place, are the cells of each attribute of its kind, one
-/// attribute after another. The cells of a multi-valued attribute are ordered by value and then by
+/// Lemma: in order of place, the cells of a part are listed attribute by attribute, in the order of
+/// [`scim_schema::attributes`]. The cells of a multi-valued attribute are ordered by value and then by
 /// sub-attribute; the cells of a single-valued complex attribute are ordered by sub-attribute.
 pub fn cells_are_listed()
     ensures { CellsAreListed }

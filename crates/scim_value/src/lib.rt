@@ -1,5 +1,5 @@
-//! Parts and resources: their cells, changes of cells, and the rules and limits that resources obey
-//! (RFC 7643 sections 2 to 4).
+//! Parts and resources: their cells, changes to cells, and the rules and limits for resources (RFC 7643
+//! sections 2 to 4).
 #![tactic(auto)]
 
 mod cell_checks;

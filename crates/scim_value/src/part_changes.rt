@@ -27,10 +27,10 @@ impl Part {
         cells_of(alloc, self.rows())
     }
 
-    /// Returns the part with this cell added. It replaces a cell at the same place, if there is one.
+    /// Returns the part with this cell added. The new cell replaces a cell at the same place, if any.
     ///
-    /// Fails with `Invalid` if no part has these cells: the leaf doesn't belong to the kind, the atom doesn't
-    /// have the type of the leaf, there is no value at the previous position, or the attribute is
+    /// Fails with `Invalid` if the result isn't a valid part: the leaf doesn't belong to the kind, the atom
+    /// doesn't have the type of the leaf, there is no value at the previous position, or the attribute is
     /// single-valued and the position isn't 0.
     pub fn with(
         &self,
@@ -53,7 +53,7 @@ impl Part {
     }
 
     /// Returns the part without the cell at a position of a leaf, if there is one. A value that
-    /// loses its last cell is removed, and the positions after it move down by one.
+    /// loses its last cell is removed, and each later value moves down by one position.
     pub fn without(&self, alloc: Global, leaf: Leaf, position: usize) -> Result<Part, NoMemory>
         ensures { IfOk result (λ p. p ≡ without_cell leaf position self.now) }
     {
@@ -69,7 +69,8 @@ impl Part {
     }
 }
 
-/// The position of a row of the unit, given the unit and the position of the previous row, if any.
+/// The position of a row of `unit`. `last` is the unit and the position of the previous row, or `None` if the
+/// row is the first.
 fn next_position(last: Option<(Unit, usize)>, unit: Unit) -> usize
     requires { ForSome last (λ l. l.1 + 1 < 2 ^ 64) }
     ensures { result ≡ spec.next_position last unit }
@@ -82,7 +83,7 @@ fn next_position(last: Option<(Unit, usize)>, unit: Unit) -> usize
     }
 }
 
-/// Appends copies of the fields as cells at the position. If memory runs out, some cells may have been
+/// Appends copies of the fields as cells at `position`. If memory runs out, some cells may have been
 /// appended.
 fn append_fields(
     alloc: Global,

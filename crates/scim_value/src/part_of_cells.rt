@@ -16,11 +16,11 @@ use scim_text::{Failed, NoMemory, push};
 use std::alloc::Global;
 
 impl Part {
-    /// Returns the part of these cells, which may be in any order.
+    /// Returns the part with these cells, which may be in any order.
     ///
     /// Fails with `Invalid` if no part of the kind has these cells: a leaf doesn't belong to the kind, an
-    /// atom doesn't have the type of its leaf, two cells have the same place, positions have a gap, or a
-    /// single-valued attribute has a position other than 0.
+    /// atom doesn't have the type of its leaf, two cells have the same place, the positions of an attribute
+    /// have a gap, or a single-valued attribute has a position other than 0.
     pub fn of(
         alloc: Global,
         kind: Kind,
@@ -38,10 +38,10 @@ impl Part {
         Part::of_sorted(alloc, kind, id, cells)
     }
 
-    /// Returns the part of cells that are in order of place: by attribute in the order of the
-    /// table, by position, by sub-attribute.
+    /// Returns the part with these cells, which must be in order of place: by attribute in the order of
+    /// the enum, then by position, then by sub-attribute.
     ///
-    /// Fails with `Invalid` if the cells aren't in this order, or if [`Part::of`] fails for them.
+    /// Fails with `Invalid` if the cells aren't in this order, or if [`Part::of`] rejects these cells.
     pub fn of_sorted(
         alloc: Global,
         kind: Kind,
@@ -81,7 +81,7 @@ fn joins_last(before: Option<Place>, place: Place) -> bool
 }
 
 /// Adds the cell to the last row if `is_joined` is true and there is a row, otherwise as a new row. If
-/// memory runs out, the last row may be missing.
+/// memory runs out, the last row may have been removed.
 fn group_cell(
     alloc: Global,
     rows: &mut Vec<Row>,

@@ -22,11 +22,11 @@ use scim_text::NoMemory;
 use std::alloc::Global;
 use std::marker::Model;
 
-/// A kind, an id and cells of the kind, whose positions run from 0 without a gap. The cells are all
-/// cells of a resource or a selection, such as the cells that a client may see.
+/// A kind, an id, and all cells of a resource or some of them, such as the cells that a client may see.
+/// The positions of an attribute run from 0 without a gap.
 ///
-/// A part stores its cells grouped by value, as rows. Contracts see the finite map from leaf and
-/// position to atom; `rows` returns the rows of that map.
+/// A part stores its cells grouped by value, as rows. In contracts, the cells of a part are a finite map
+/// from leaf and position to atom; `rows` returns the rows of that map.
 pub struct Part {
     kind: Kind,
     id: Id,
@@ -63,7 +63,7 @@ impl Model for Part {
 }
 
 impl Part {
-    /// Returns the part with these rows. Each must be valid for the kind and have a field. They
+    /// Returns the part with these rows. Each row must be valid for the kind and have a field. The rows
     /// must be in order of unit, with at most one row for each unit that isn't multi-valued.
     pub fn of_rows(kind: Kind, id: Id, rows: Vec<Row>) -> Part
         requires { AreSound kind rows.items }
@@ -134,7 +134,7 @@ impl Part {
     /// The rows of an attribute, in order of unit: the values of a multi-valued attribute, or one
     /// row for each leaf of a single-valued attribute that has a cell.
     ///
-    /// It takes one binary search if the attribute has no rows, otherwise two.
+    /// Makes one binary search if the attribute has no rows, otherwise two.
     pub fn attribute_rows(&self, attribute: Attribute) -> &[Row]
         ensures rows { result.now ≡ spec.attribute_rows attribute (spec.rows self.now) }
         ensures valid { IsPart self.now }

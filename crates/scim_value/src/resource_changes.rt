@@ -15,7 +15,7 @@ use scim_text::Failed;
 use std::alloc::Global;
 
 impl Resource {
-    /// Returns the resource with this cell added. It replaces a cell at the same place, if there is one.
+    /// Returns the resource with this cell added. The new cell replaces a cell at the same place, if any.
     /// `self` isn't changed. Unless the leaf is `meta.location`, the base of the location stays the same.
     ///
     /// Fails with `Invalid` if the result isn't a resource: the leaf doesn't belong to the kind, the atom
@@ -39,7 +39,7 @@ impl Resource {
     }
 
     /// Returns the resource without the cell at a position of a leaf, if there is one. A value that
-    /// loses its last cell is removed, and the positions after it move down by one. `self` isn't
+    /// loses its last cell is removed, and each later value moves down by one position. `self` isn't
     /// changed. Unless the leaf is `meta.location`, the base of the location stays the same.
     ///
     /// Fails with `Invalid` if the result isn't a resource, for example because the cell is required.

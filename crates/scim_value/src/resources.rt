@@ -18,9 +18,9 @@ use std::alloc::Global;
 use std::marker::Model;
 
 /// A complete resource: a part that meets all requirements of RFC 7643 sections 3.1, 4.1 and 4.2, within
-/// the limits of this server. [`crate::is_resource`] checks whether a part is one.
+/// the limits of this server. [`crate::is_resource`] checks whether a part is a resource.
 ///
-/// Contracts see a resource as its part, and know that the part is a valid resource.
+/// In contracts, a resource is its part, which is always valid as a resource.
 pub struct Resource {
     part: Part,
 }
@@ -32,7 +32,7 @@ impl Drop for Resource {
 }
 
 /// Returns the URL of a resource below a base, such as
-/// `http://127.0.0.1:8080/Users/2819c223-7f76-453a-919d-413861904646`. It is the only valid `meta.location`
+/// `http://127.0.0.1:8080/Users/2819c223-7f76-453a-919d-413861904646`. `meta.location` must equal this URL
 /// (RFC 7643 section 3.1).
 pub fn location(alloc: Global, base: &str, kind: Kind, id: Id) -> Result<Text, NoMemory>
     ensures { IfOk result (λ t. t ≡ spec.location base.now kind id) }
@@ -62,11 +62,11 @@ impl Model for Resource {
 }
 
 impl Resource {
-    /// Makes a resource from a part. Its `meta.location` must be below `base`, such as
+    /// Makes a resource from a part. The `meta.location` of the part must be below `base`, such as
     /// `http://127.0.0.1:8080`.
     ///
-    /// Fails with `Invalid` if the part isn't a resource or its location is below another base. In that case
-    /// the part is dropped.
+    /// Fails with `Invalid`, and drops the part, if the part isn't valid as a resource or its
+    /// `meta.location` is below another base.
     pub fn of(part: Part, base: &str) -> Result<Resource, Invalid>
         ensures value { IfOk result (λ r. r ≡ part) }
         ensures valid { IsOk result ↔ (IsResource part × HasBase base.now part) }
@@ -78,7 +78,7 @@ impl Resource {
         }
     }
 
-    /// Makes a resource from a part, whose location may be below any base. Fails with `Invalid` if the part
+    /// Makes a resource from a part. `meta.location` may be below any base. Fails with `Invalid` if the part
     /// isn't valid as a resource.
     pub(crate) fn of_part(part: Part) -> Result<Resource, Invalid>
         ensures value { IfOk result (λ r. r ≡ part) }
@@ -99,7 +99,7 @@ impl Resource {
         Resource { part }
     }
 
-    /// The part, with all cells.
+    /// The part that has all cells of the resource.
     pub fn part(&self) -> &Part
         ensures value { result.now ≡ self.now }
         ensures valid { IsResource self.now }

@@ -6,7 +6,7 @@ use scim_cell::{Row, RowTest};
 use scim_text::{NoMemory, push};
 use std::alloc::Global;
 
-/// Copies the fields of the rows that the test keeps, without the rows that become empty.
+/// Copies the rows `own` with only the fields that the test keeps. Leaves out rows that become empty.
 pub(crate) fn kept_rows<T: RowTest>(
     alloc: Global,
     own: &[Row],

@@ -1,4 +1,4 @@
-//! Splits a list of rows, which is in order of unit, at a given unit.
+//! Finds the rows of a given unit in a list of rows that is in order of unit.
 ghost use Rattle.std.specs.Prelude.{◌≡◌, ◌++◌, AllPairs, filter, take};
 ghost use Rattle.std.specs.List.{list_any};
 ghost use Rattle.std.specs.Ordering.{is_lt, is_eq, is_gt};

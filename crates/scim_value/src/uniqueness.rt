@@ -12,8 +12,8 @@ use scim_schema::{Kind, Leaf, characteristics_of, unique_leaves};
 use scim_text::{NoMemory, fold, push};
 use std::alloc::Global;
 
-/// A name that at most one resource may have: its leaf, and the text by which it is compared with other
-/// names. The text is folded unless the attribute is caseExact.
+/// A value that at most one resource may have, such as a `userName`: the leaf, and the text that comparisons
+/// use. The text is folded unless the attribute is caseExact.
 #[derive(PartialEq, Eq, Hash)]
 pub struct UniqueName {
     pub leaf: Leaf,
@@ -29,7 +29,7 @@ impl Drop for UniqueName {
     }
 }
 
-/// Returns the unique names of a resource, in the order of the table.
+/// Returns the unique names of a resource, in the order of [`scim_schema::unique_leaves`].
 pub fn unique_names(alloc: Global, resource: &Resource) -> Result<Vec<UniqueName>, NoMemory>
     ensures { IfOk result (λ v. map name_of v.items ≡ spec.unique_names resource.now) }
 {
@@ -38,7 +38,7 @@ pub fn unique_names(alloc: Global, resource: &Resource) -> Result<Vec<UniqueName
     Ok(names)
 }
 
-/// Appends the names of the resource at the leaves. If memory runs out, some may have been appended.
+/// Appends the names that the resource has at `leaves`. If memory runs out, some may have been appended.
 fn push_names(
     alloc: Global,
     resource: &Resource,
@@ -57,8 +57,8 @@ fn push_names(
     Ok(())
 }
 
-/// Returns the text by which a name at a leaf of the kind is compared: the folded text, or the text
-/// itself if the leaf is caseExact.
+/// Returns the form of `text` that comparisons of names at the leaf use: `text` itself if the leaf is
+/// caseExact, otherwise the folded text.
 pub fn known_text(alloc: Global, kind: Kind, leaf: Leaf, text: &str) -> Result<String, NoMemory>
     ensures { IfOk result (λ t. string_bytes t ≡ spec.known_text kind leaf text.now) }
 {

@@ -16,11 +16,11 @@ use scim_schema::{
     characteristics_of,
 };
 
-/// Whether the part is a resource, with a location below any base.
+/// Whether the part is a valid resource. `meta.location` may be below any base.
 ///
 /// These are the rules: `id` is the id of the part and `meta` is complete (RFC 7643 section 3.1). A user
-/// has a `userName` that isn't empty (section 4.1.1), a group a `displayName` (section 4.2). Each member
-/// has a `value` (section 4.2). No attribute has two values whose `primary` is true (section 2.4).
+/// has a `userName` that isn't empty (section 4.1.1), and a group has a `displayName` (section 4.2). Each
+/// member has a `value` (section 4.2). No attribute has two values whose `primary` is true (section 2.4).
 /// There are no cells of `groups` or of writeOnly attributes (sections 4.1.2 and 7). The part is within
 /// the limits `MOST_VALUES` and `LONGEST_VALUE`.
 pub fn is_resource(part: &Part) -> bool
@@ -95,7 +95,7 @@ fn has_meta(part: &Part) -> bool
         && has(part, Leaf::of(Attribute::Meta, SubAttribute::LastModified))
 }
 
-/// The text without the suffix `end`, or `None` if the text doesn't end with it.
+/// The text without the suffix `end`, or `None` if the text doesn't end with `end`.
 fn before<'a>(text: &'a str, end: &str) -> Option<&'a str>
     ensures { (front : List ℕ) → (option_copied result ≡ Some front)
         ↔ (text.now ≡ front ++ end.now) }
@@ -103,7 +103,7 @@ fn before<'a>(text: &'a str, end: &str) -> Option<&'a str>
     text.strip_suffix(end)
 }
 
-/// The base of a location, or `None` if it isn't the location of a resource with this kind and this id.
+/// The base of `location`, or `None` if `location` isn't the URL of a resource of this kind with this id.
 fn base_of<'a>(location: &'a str, kind: Kind, id: &str) -> Option<&'a str>
     ensures { (base : List ℕ) → (option_copied result ≡ Some base)
         ↔ (location.now ≡ base ++ (endpoint kind ++ (codes "/" ++ id.now))) }
@@ -111,8 +111,8 @@ fn base_of<'a>(location: &'a str, kind: Kind, id: &str) -> Option<&'a str>
     before(before(before(location, id)?, "/")?, kind.endpoint())
 }
 
-/// The base of `meta.location`, or `None` if it isn't the location of a resource with the kind and the id
-/// of the part.
+/// The base of `meta.location`, or `None` if `meta.location` isn't the URL of a resource with the kind and
+/// the id of the part.
 fn location_base(part: &Part) -> Option<&str>
     ensures { (base : List ℕ) → (option_copied result ≡ Some base) ↔ HasBase base part.now }
 {
@@ -128,7 +128,7 @@ fn is_located(part: &Part) -> bool
     location_base(part).is_some()
 }
 
-/// Whether a user has a `userName` that isn't empty, or a group a `displayName`.
+/// Whether the part is a user with a `userName` that isn't empty, or a group with a `displayName`.
 fn is_named(part: &Part) -> bool
     ensures { IsTrue result ↔ IsNamed part.now }
 {
@@ -207,8 +207,8 @@ fn is_location(leaf: Leaf) -> bool
     leaf == Leaf::of(Attribute::Meta, SubAttribute::Location)
 }
 
-/// Whether a resource may have the field: it doesn't belong to `groups` or to a writeOnly leaf, and its
-/// text isn't too long, unless it is `meta.location`.
+/// Whether a resource may have the field: the field doesn't belong to `groups` or to a writeOnly leaf, and
+/// a text has at most `LONGEST_VALUE` bytes unless the leaf is `meta.location`.
 fn may_be_kept(kind: Kind, field: &Field) -> bool
     ensures { IsTrue result ↔ MayBeKept kind field.now }
 {

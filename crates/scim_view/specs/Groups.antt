@@ -28,7 +28,7 @@ abbrev pub and_those : {X : Type 0} → Option X → List X → List X
 and_those None xs = xs
 and_those (Some x) xs = x ∷ xs
 
--- the client's view of each group that it sees
+-- the view of each group that the client sees
 abbrev pub seen : Viewer → List Content → List Content
 seen v [] = []
 seen v (g ∷ gs) = and_those (view v g) (seen v gs)
@@ -42,7 +42,7 @@ text_in _ = None
 abbrev pub display_of : Content → Option (List ℕ)
 display_of g = text_in (cell_at (simple DisplayName) 0 (rows g))
 
--- a field of a value of `groups`
+-- the field of a value of `groups` with this sub-attribute and text
 abbrev pub field : SubAttribute → List ℕ → Field
 field b t = record { leaf = leaf_at Groups b; atom = Text t }
 
@@ -63,12 +63,12 @@ membership_of base id display = record {
 abbrev pub membership : List ℕ → Content → Row
 membership base g = membership_of base g.id (display_of g)
 
--- the value of `groups` for a group that the code keeps
+-- the value of `groups` for a group as the code represents it
 abbrev pub membership_at : List ℕ → Bor SeenGroup → Row
 membership_at base g = membership_of base g.now.id g.now.display
 
--- the values of `groups` for the resource with this id: one for each of these groups that lists it, sorted by
--- the groups' ids
+-- the values of `groups` for the resource with this id: one for each of these groups that lists the
+-- resource, sorted by the ids of the groups
 abbrev pub memberships : List ℕ → List Content → List ℕ → List Row
 memberships base gs id = map (membership base) (sorted_by id_cmp (filter (lists id) gs))
 
@@ -76,13 +76,13 @@ memberships base gs id = map (membership base) (sorted_by id_cmp (filter (lists 
 abbrev pub rows_with : List Row → Content → List Row
 rows_with ms c = if sameb the_kind c.kind User then put_values (whole Groups) ms (rows c) else rows c
 
--- the resource with these values of `groups`, restricted to the cells that the decisions on reading let be
--- seen
+-- the resource with these values of `groups`, restricted to the cells that the read decisions make
+-- visible
 unfoldable pub visible_with : (Leaf → Decision) → List Row → Content → Content
 visible_with decision ms c = content c.kind c.id (restricted (may_be_seen decision c.kind) (rows_with ms c))
 
--- the part of a resource that the client may see, with `groups` computed from those of the
--- given groups that it sees
+-- the part of a resource that the client may see, with `groups` computed from the given groups
+-- that the client sees
 unfoldable pub with_groups : Viewer → List Content → Content → Content
 with_groups v groups c = visible_with (read_decision v c) (memberships v.base (seen v groups) c.id) c
 
@@ -91,7 +91,7 @@ with_groups v groups c = visible_with (read_decision v c) (memberships v.base (s
 abbrev pub view_with_groups : Viewer → List Content → Content → Option Content
 view_with_groups v groups c = if sees v c then Some (with_groups v groups c) else None
 
--- the client's view of each resource that it sees, with its `groups`
+-- the view of each resource that the client sees, with the computed `groups`
 abbrev pub views : Viewer → List Content → List Content → List Content
 views v groups [] = []
 views v groups (c ∷ cs) = and_those (view_with_groups v groups c) (views v groups cs)

@@ -6,6 +6,6 @@ use Rattle.scim_view.specs.View.{Viewer}
 use Rattle.scim_view.specs.Groups.{seen}
 use Rattle.scim_view.specs.code.Index.{IsMadeOf}
 
--- the index has those of the groups that the viewer sees, each as the viewer sees it
+-- the index has the groups that the viewer sees, each reduced to its visible part
 abbrev pub IsIndexOf : Viewer → List Content → GroupIndex → Type 0
 IsIndexOf v groups index = IsMadeOf (seen v groups) index

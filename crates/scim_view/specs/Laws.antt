@@ -1,4 +1,5 @@
--- The theorem that a change which doesn't widen a client's access brings no unchanged cell into its view.
+-- The theorem that a change which doesn't widen a client's access brings no unchanged cell into the
+-- client's view.
 use Rattle.std.specs.Prelude.{◌≡◌, ℕ, false, true, None, Some}
 use Rattle.scim_schema.specs.declared.Leaf.{Leaf}
 use Rattle.scim_schema.specs.Mutability.{is_write_only}

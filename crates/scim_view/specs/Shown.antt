@@ -11,14 +11,14 @@ use Rattle.scim_view.specs.declared.projection.Wanted.{Wanted}
 use Rattle.scim_view.specs.declared.projection.Wanted.TheVariants as wanted
 use Rattle.scim_view.specs.Names.{includes}
 
--- whether a leaf with `returned` "default" is shown: always for Default, if it is named for
--- Only, and if it isn't named for Without
+-- whether a leaf with `returned` "default" is shown: always with `Default`, if the leaf is named
+-- with `Only`, and if the leaf isn't named with `Without`
 abbrev pub shows_default : Wanted → Leaf → Bool
 shows_default wanted.Default l = true
 shows_default (wanted.Only names) l = includes names l
 shows_default (wanted.Without names) l = not (includes names l)
 
--- whether a leaf with `returned` "request" is shown: only if it is named for Only
+-- whether a leaf with `returned` "request" is shown: only with `Only`, if the leaf is named
 abbrev pub shows_requested : Wanted → Leaf → Bool
 shows_requested wanted.Default l = false
 shows_requested (wanted.Only names) l = includes names l

@@ -25,7 +25,7 @@ pub record Viewer : Type 0 where
   pub client : List ℕ
   pub base : List ℕ
 
--- the specification's viewer for a viewer in code
+-- the `Viewer` with the policy, the client and the base of a viewer in code
 abbrev pub viewer_of : ViewerInCode → Viewer
 viewer_of v = record { policy = v.policy.now; client = v.client.now; base = v.base.now }
 
@@ -41,29 +41,29 @@ may_read v c l = (read_decision v c l).allow
 unfoldable pub sees : Viewer → Content → Bool
 sees v c = may_read v c (simple Id)
 
--- whether the decisions on reading let a leaf of a kind be seen: reading is allowed, and the
--- leaf isn't writeOnly
+-- whether the read decisions make a leaf of a kind visible: reading is allowed, and the leaf
+-- isn't writeOnly
 abbrev pub may_be_seen : (Leaf → Decision) → Kind → Test
 may_be_seen decision kind _ l = not (is_write_only kind l) && (decision l).allow
 
--- whether the decisions on reading let some leaf of the attribute be seen in resources of the kind
+-- whether the read decisions make some leaf of the attribute visible in resources of the kind
 abbrev pub shows_some : (Leaf → Decision) → Kind → Attribute → Bool
 shows_some decision kind a = list_any (λ l. sameb the_attribute l.attribute a && (not (is_write_only kind l) && (decision l).allow)) (leaves kind)
 
--- the part of the resource that the decisions on reading let be seen: values without a visible cell are left
--- out, and later positions move down
+-- the part of the resource that the decisions on reading make visible; a value without a visible cell is
+-- omitted, and later values move up to its position
 unfoldable pub visible_by : (Leaf → Decision) → Content → Content
 visible_by decision c = content c.kind c.id (restricted (may_be_seen decision c.kind) (rows c))
 
--- the part of the resource that the decisions on reading let be seen; None if its `id` may not be read
+-- the part of the resource that the decisions on reading make visible; None if its `id` may not be read
 unfoldable pub view_by : (Leaf → Decision) → Content → Option Content
 view_by decision c = if (decision (simple Id)).allow then Some (visible_by decision c) else None
 
--- whether the row is of one of the attributes and the decisions on reading let the leaf be seen
+-- whether the row belongs to one of the attributes, and the decisions on reading make the leaf visible
 abbrev pub may_be_seen_of : List Attribute → (Leaf → Decision) → Kind → Test
 may_be_seen_of attributes decision kind r l = list_any (sameb the_attribute r.unit.attribute) attributes && may_be_seen decision kind r l
 
--- the part of the resource that is in these attributes and that the decisions on reading let be seen
+-- the resource with only the cells of these attributes that the read decisions make visible
 unfoldable pub visible_attributes : List Attribute → (Leaf → Decision) → Content → Content
 visible_attributes attributes decision c = content c.kind c.id (restricted (may_be_seen_of attributes decision c.kind) (rows c))
 

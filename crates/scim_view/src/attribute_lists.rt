@@ -40,7 +40,7 @@ impl Names {
     }
 
     /// Whether the leaf is named: by itself, by its attribute, or by the extension of its attribute.
-    /// The time that it takes doesn't depend on the number of texts.
+    /// The running time doesn't depend on the number of texts.
     pub fn includes(&self, leaf: Leaf) -> bool
         ensures { result ≡ spec.includes self.now leaf }
     {

@@ -26,7 +26,7 @@ use scim_text::{NoMemory, push};
 use scim_value::{Part, Resource};
 use std::alloc::Global;
 
-/// A group that a client sees: the parts of it that appear in its members' `groups`.
+/// The parts of a group that appear in the `groups` of its members, as a client sees them.
 #[derive(Drop)]
 pub(crate) struct SeenGroup {
     id: Id,
@@ -34,7 +34,7 @@ pub(crate) struct SeenGroup {
     display: Option<Text>,
 }
 
-/// Returns the parts of a group that appear in its members' `groups`.
+/// Returns the parts of a group that appear in the `groups` of its members.
 /// `decisions` are the decisions on reading the group.
 pub(crate) fn seen_group(
     alloc: Global,
@@ -52,7 +52,7 @@ pub(crate) fn seen_group(
     })
 }
 
-/// Returns the `displayName` of a group, if it has one that `decisions` let the client read.
+/// Returns the `displayName` of a group; `None` if it has none or `decisions` don't let the client read it.
 fn seen_name(
     alloc: Global,
     decisions: &Decisions,
@@ -85,8 +85,8 @@ fn text_of(alloc: Global, atom: Option<&Atom>) -> Result<Option<Text>, NoMemory>
 }
 
 /// Returns the part of a resource that `decisions` let the client read, with `groups` computed.
-/// If the resource is a user, its `groups` are made from `groups` in their order; otherwise `groups` is
-/// ignored.
+/// The `groups` of a user are made from the argument `groups`, in the given order. For a group, the argument
+/// is ignored.
 pub(crate) fn visible_with(
     alloc: Global,
     decisions: &Decisions,
@@ -133,10 +133,10 @@ fn memberships(
 }
 
 impl Viewer<'_> {
-    /// Like [`Viewer::visible`], but with the `groups` of a user computed (RFC 7643 section 4.1.2). They have
-    /// a value for each of the given groups that lists the user, if the client sees the group and the ids of
-    /// its members. The values are in ascending order of the groups' ids. The policy decides on `groups` as
-    /// on any other attribute.
+    /// Like [`Viewer::visible`], but with the `groups` of a user computed (RFC 7643 section 4.1.2). This
+    /// attribute has a value for each of the given groups that lists the user, if the client sees the group
+    /// and the ids of its members. The values are in ascending order of the groups' ids. The policy decides
+    /// on `groups` as on any other attribute.
     pub fn with_groups(
         &self,
         alloc: Global,
@@ -191,7 +191,7 @@ impl Viewer<'_> {
     }
 }
 
-/// Like [`visible_with`], for a slice of groups in any order.
+/// Like [`visible_with`], but sorts the groups by id first.
 fn visible_among(
     alloc: Global,
     decisions: &Decisions,

@@ -21,15 +21,15 @@ use scim_value::Resource;
 use std::alloc::Global;
 use std::collections::HashMap;
 
-/// The groups that a client sees, indexed by the ids of the members that it sees in them.
+/// An index of the groups that a client sees, by the ids of the members that the client sees in each group.
 ///
 /// Groups are added one by one, and [`Viewer::view_by_index`] looks up one resource at a time, so a caller
 /// can stream groups and users from a store without holding lists of them.
 #[derive(Drop)]
 pub struct GroupIndex {
     groups: Vec<SeenGroup>,
-    /// For each id, the positions in `groups` of the groups in which the client sees it as a member,
-    /// ascending and distinct.
+    /// For each id, the distinct positions, in ascending order, of the groups in `groups` in which the client
+    /// sees the id as a member.
     by_member: HashMap<Id, Vec<usize>>,
 }
 
@@ -64,7 +64,7 @@ impl GroupIndex {
         Ok(())
     }
 
-    /// Returns an index of those of `groups` that the viewer sees.
+    /// Returns an index of the groups among `groups` that the viewer sees.
     pub(crate) fn of(
         alloc: Global,
         viewer: &Viewer<'_>,

@@ -57,7 +57,7 @@ impl ListingGroups {
         Ok(())
     }
 
-    /// Returns those of `groups` in which the viewer sees the resource as a member.
+    /// Returns the groups among `groups` in which the viewer sees the resource as a member.
     /// Empty if the resource isn't a user. Evaluates the policy only for groups that list the
     /// resource.
     pub(crate) fn of(
@@ -76,7 +76,7 @@ impl ListingGroups {
         }
     }
 
-    /// Returns those of `groups` in which the viewer sees the resource `id` as a member.
+    /// Returns the groups among `groups` in which the viewer sees the resource `id` as a member.
     fn of_id(
         alloc: Global,
         viewer: &Viewer<'_>,

@@ -18,7 +18,7 @@ use scim_value::{Part, Resource};
 use std::alloc::Global;
 
 impl Viewer<'_> {
-    /// Returns the client's view of each resource that it sees, in their order.
+    /// Returns the view of each of `resources` that the client sees, in the given order.
     /// Each view is what [`Viewer::view_with_groups`] returns. Evaluates the policy once for each resource
     /// and once for each group.
     pub fn views(
@@ -42,8 +42,8 @@ impl Viewer<'_> {
         Ok(views)
     }
 
-    /// Like [`Viewer::view_with_groups`], with the groups of the index. `None` if the client doesn't see the
-    /// resource. `decisions` must come from [`Viewer::decisions`] for the resource, or from
+    /// Like [`Viewer::view_with_groups`], but takes the groups from the index. `None` if the client doesn't
+    /// see the resource. `decisions` must come from [`Viewer::decisions`] for the resource, or from
     /// [`Viewer::decisions_on_all`] for its kind; otherwise the result is unspecified. The policy isn't
     /// evaluated again.
     pub fn view_by_index(

@@ -88,8 +88,8 @@ impl Wanted {
     }
 }
 
-/// Returns the cells of `visible` that the reply shows; the positions of later values move down. If all cells
-/// are shown, `visible` itself is returned.
+/// Returns the part of `visible` that the reply shows. Values without a shown cell are left out, and the
+/// positions of later values move down. If all cells are shown, returns `visible` itself.
 pub fn project(alloc: Global, visible: Part, wanted: &Wanted) -> Result<Part, NoMemory>
     ensures { IfOk result (λ p. p ≡ spec.shown wanted.now visible) }
 {

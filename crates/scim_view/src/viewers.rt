@@ -35,9 +35,8 @@ impl Viewer<'_> {
             .decisions(alloc, self.client, Op::Read, resource)
     }
 
-    /// Returns the decisions on reading any resource of the kind.
-    /// [`Viewer::decisions`] returns the same decisions for each resource of the kind. `None` if a rule that
-    /// may decide has a target, so that the decisions depend on the resource.
+    /// Returns the decisions on reading that [`Viewer::decisions`] returns for every resource of the kind.
+    /// `None` if a rule that may decide has a target, so that the decisions depend on the resource.
     pub fn decisions_on_all(&self, alloc: Global, kind: Kind) -> Result<Option<Decisions>, NoMemory>
         ensures same { IfOk result (λ o. IfSome o (λ decisions. (c : Content) → c.kind ≡ kind
             → (l : Leaf)

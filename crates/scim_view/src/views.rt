@@ -51,9 +51,8 @@ pub struct MayBeSeenOf<'a> {
 }
 
 impl<'a> MayBeSeenOf<'a> {
-    /// Returns the test for `attributes` of resources of the kind, by the decisions on reading them.
-    /// It keeps the cells of `attributes` that [`Viewer::visible`] keeps. It skips rows of other attributes
-    /// unread.
+    /// Returns a test that keeps the cells of `attributes` that `decisions` allow the client to read, except
+    /// writeOnly ones. The test drops rows of other attributes without looking at their fields.
     pub fn new(attributes: &'a [Attribute], kind: Kind, decisions: &'a Decisions) -> MayBeSeenOf<'a>
         ensures { result ≡ record {
           attributes = attributes.entry;

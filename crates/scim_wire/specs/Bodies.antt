@@ -13,7 +13,7 @@ abbrev pub has_body : Framing → Bool
 has_body (Sized n) = nat_lt 0 n
 has_body Chunked = true
 
--- the bytes after a head are exactly this body
+-- the bytes after a head are exactly one body with the content `body`
 abbrev pub IsBody : Framing → List ℕ → List ℕ → Type 0
 IsBody (Sized n) bytes body = (bytes ≡ body) × (length body ≡ n)
 IsBody Chunked bytes body = IsChunked bytes body
@@ -28,7 +28,7 @@ abbrev pub refusal_of : BadChunks → Refusal
 refusal_of TooLarge = refusals.TooLarge
 refusal_of Malformed = refusals.BadFraming
 
--- the bytes after a head begin with a body that is refused
+-- the bytes after a head begin with an invalid body, which gets this refusal
 abbrev pub IsBadBody : Framing → List ℕ → Refusal → Type 0
 IsBadBody (Sized n) bytes refusal = ⊥
 IsBadBody Chunked bytes refusal =

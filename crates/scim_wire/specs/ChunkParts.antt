@@ -7,7 +7,7 @@ use Rattle.scim_wire.specs.declared.chunked.ChunkStep.TheVariants.{More, Whole}
 use Rattle.scim_wire.specs.Chunked.{IsChunked, IsBadChunked}
 use Rattle.scim_wire.specs.code.ChunkSteps.{StandsAt}
 
--- the part is in the state of a new part that has read these bytes, which don't finish the body
+-- the part has the state that results from reading these bytes, which don't finish the body
 abbrev pub StandsFor : ChunkedPart → List ℕ → Type 0
 StandsFor part bytes = StandsAt part.place part.body.items part.line.items bytes
 

@@ -59,7 +59,8 @@ print_chunks chunks = flat_map (λ c. c.line ++ (c.bytes ++ crlf_bytes)) chunks
 abbrev pub content : List Chunk → List ℕ
 content chunks = flat_map (λ c. c.bytes) chunks
 
--- the bytes are whole chunks followed by `rest`; `body` is the content of the chunks, within the limit
+-- the bytes are whole chunks followed by `rest`; `body` is the content of the chunks, of at most
+-- `most_content` bytes
 pub record HasChunks (bytes body rest : List ℕ) : Type 0 where
   pub chunks : List Chunk
   pub each : All IsChunk chunks
@@ -67,7 +68,7 @@ pub record HasChunks (bytes body rest : List ℕ) : Type 0 where
   pub holds : body ≡ content chunks
   pub within : length body ≤ most_content
 
--- `rest` is a chunk line followed by a text, and `IsText` holds for the size in the line and this text
+-- `rest` is a chunk line followed by a text; the size in the line and this text satisfy `IsText`
 pub record IsAfterLine (IsText : ℕ → List ℕ → Type 0) (rest : List ℕ) : Type 0 where
   pub size : ℕ
   pub line : List ℕ
@@ -80,15 +81,16 @@ pub record IsAfterLine (IsText : ℕ → List ℕ → Type 0) (rest : List ℕ) 
 abbrev pub IsEnd : List ℕ → Type 0
 IsEnd rest = IsAfterLine (λ size text. (size ≡ 0) × AreTrailers text) rest
 
--- `rest` is an unfinished chunk line, or a chunk line that keeps the content within its limit, followed by a
--- proper prefix of a text that may follow this line
+-- `rest` is an unfinished chunk line; or it is a whole chunk line, whose size keeps the content within its
+-- limit, and a proper prefix of a text that may follow this line
 abbrev pub IsEndPart : List ℕ → List ℕ → Type 0
 IsEndPart body rest =
     IsFrontOf IsLine rest
     ⊎ IsAfterLine (λ size text. (length body + size ≤ most_content) × IsFrontOf (Follows size) text) rest
 
--- `rest` becomes invalid at its last byte. `TooLarge`: it is a chunk line whose size makes the content exceed
--- its limit. `Malformed`: no chunk line, or no text that may follow a chunk line, continues with this byte.
+-- `rest` becomes invalid at its last byte. The error is `TooLarge` if `rest` is a chunk line whose size makes
+-- the content exceed its limit. The error is `Malformed` if no chunk line, or no text that may follow a chunk
+-- line, can continue with this byte.
 abbrev pub IsBadEnd : List ℕ → List ℕ → BadChunks → Type 0
 IsBadEnd body rest TooLarge = (size : ℕ) × IsLineOf size rest × (most_content < length body + size)
 IsBadEnd body rest Malformed =

@@ -20,7 +20,8 @@ fields_of h = map name_and_value h.fields
 abbrev pub closes : RequestHead → Bool
 closes h = h.minor == 0 || options.says_close (fields_of h)
 
--- whether the client waits for 100 (Continue), which only HTTP/1.1 has (RFC 9110 section 10.1.1)
+-- whether the client may wait for 100 (Continue): the version is HTTP/1.1, and a header `Expect` is
+-- `100-continue` (RFC 9110 section 10.1.1)
 abbrev pub expects_continue : RequestHead → Bool
 expects_continue h = h.minor == 1 && options.expects_continue (fields_of h)
 
@@ -40,8 +41,8 @@ framed h (Err refusal) = Err refusal
 abbrev pub message_head_of : RequestHead → Result MessageHead Refusal
 message_head_of h = framed h (framing (fields_of h))
 
--- the result of parsing the text of a head is these contents or this refusal; the refusal is `BadHead` if the
--- text isn't a request line with at most 64 headers
+-- `read` is the result of parsing the text of a head: the contents of the head, or the refusal; the refusal
+-- is `BadHead` if the text isn't a request line with at most 64 headers
 abbrev pub ReadsMessage : List ℕ → Result MessageHead Refusal → Type 0
 ReadsMessage text read =
     ((h : RequestHead) × IsRequestText text h × (read ≡ message_head_of h))

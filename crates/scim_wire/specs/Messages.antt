@@ -12,15 +12,18 @@ use Rattle.scim_wire.specs.MessageHeads.{ReadsMessage}
 use Rattle.scim_wire.specs.Parts.{IsHeadText, IsOverlong}
 use Rattle.scim_wire.specs.Streams.{OpensThen, IsUnended}
 
--- the text of a head has these contents or this refusal; the refusal is `BadHead` if the text exceeds a limit
+-- `read` is the contents of the head with this text, or the refusal of the head; the refusal is `BadHead` if
+-- the text exceeds a limit
 abbrev pub Says : List ℕ → Result MessageHead Refusal → Type 0
 Says text read = (IsHeadText text × ReadsMessage text read) ⊎ (IsOverlong text × (read ≡ Err BadHead))
 
--- the bytes are empty lines, the text of a head with these contents or this refusal, and the bytes `after`
+-- the bytes consist of empty lines, the text of a head, and the bytes `after`; `read` is the contents of the
+-- head, or the refusal of the head
 abbrev pub OpensSaying : List ℕ → Result MessageHead Refusal → List ℕ → Type 0
 OpensSaying bytes read after = OpensThen (λ text. Says text read) bytes after
 
--- the item 100 (Continue) if the client waits for it before it sends a body (RFC 9110 section 10.1.1)
+-- the item `Continue` if the client may wait for 100 (Continue) before it sends the body (RFC 9110 section
+-- 10.1.1)
 abbrev pub announced : MessageHead → List Item
 announced head = if head.expects_continue && has_body head.framing then Continue ∷ [] else []
 
@@ -29,7 +32,7 @@ abbrev pub message_of : MessageHead → List ℕ → Message
 message_of head body =
     record { method = head.method; target = head.target; token = head.token; body = body; close = head.close }
 
--- the bytes are this message, and `head` is its head
+-- the bytes are exactly the message `message`, and `head` is the head of this message
 pub record IsMessage (bytes : List ℕ) (head : MessageHead) (message : Message) : Type 0 where
   pub after : List ℕ
   pub opens : OpensSaying bytes (Ok head) after
@@ -43,7 +46,8 @@ LeavesUnfinished bytes items =
     ⊎ ((head : MessageHead) × (after : List ℕ) × OpensSaying bytes (Ok head) after × IsBodyPart head.framing after
     × (items ≡ announced head))
 
--- the head, or the body after it, is refused; these items are read, and the last of them is the refusal
+-- the head or the body after it is refused; `items` are the items that are read, and the last item is the
+-- refusal
 abbrev pub GivesRefusal : Result MessageHead Refusal → List ℕ → List Item → Type 0
 GivesRefusal (Err refusal) after items = items ≡ Refused refusal ∷ []
 GivesRefusal (Ok head) after items =
@@ -64,7 +68,7 @@ pub record Turn : Type 0 where
   pub head : MessageHead
   pub message : Message
 
--- the bytes of the turn are its message with its head
+-- `turn.bytes` are the bytes of `turn.message`, and `turn.head` is the head of this message
 abbrev pub IsTurn : Turn → Type 0
 IsTurn turn = IsMessage turn.bytes turn.head turn.message
 

@@ -49,8 +49,8 @@ body_text said = unwrap_or said.body []
 abbrev pub whole_form : Bool → ReplyForm
 whole_form closes = record { closes = closes; omits_body = false }
 
--- the form of the reply to a message; it omits the body if the method is exactly `HEAD` (RFC 9110 section
--- 9.3.2)
+-- the form of the reply to a message; the reply omits its body if the method is exactly `HEAD` (RFC 9110
+-- section 9.3.2)
 abbrev pub form_of : Message → ReplyForm
 form_of message = record { closes = message.close; omits_body = bytes_eq message.method (codes "HEAD") }
 

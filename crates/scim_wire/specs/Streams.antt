@@ -4,20 +4,20 @@ use Rattle.std.specs.Io.KnownBytes.{Appends}
 use Rattle.httparse.specs.Grammar.{LineEnd, print_blank}
 use Rattle.scim_wire.specs.Parts.{IsHeadPart}
 
--- the input is empty lines, a text with this property, and the bytes `after`
+-- the input consists of empty lines, a text that satisfies `IsText`, and the bytes `after`
 pub record OpensThen (IsText : List ℕ → Type 0) (input after : List ℕ) : Type 0 where
   pub blank : List LineEnd
   pub text : List ℕ
   pub split : input ≡ print_blank blank ++ (text ++ after)
   pub is_text : IsText text
 
--- the input is empty lines and this unfinished head
+-- the input consists of empty lines and the unfinished head `part`
 pub record IsOpening (input part : List ℕ) : Type 0 where
   pub blank : List LineEnd
   pub split : input ≡ print_blank blank ++ part
   pub is_part : IsHeadPart part
 
--- the input is empty lines and an unfinished head
+-- the input consists of empty lines and an unfinished head
 abbrev pub IsUnended : List ℕ → Type 0
 IsUnended input = (part : List ℕ) × IsOpening input part
 

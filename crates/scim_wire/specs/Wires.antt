@@ -11,7 +11,7 @@ use Rattle.scim_wire.specs.code.Wires.{StandsAt}
 abbrev pub IsShut : Wire → Type 0
 IsShut wire = wire.state ≡ state.Shut
 
--- the wire is in the state of a new wire that has read the stream and returned these items
+-- the wire has the state that a new wire has after it has read `stream` and returned `items`
 pub record StandsFor (wire : Wire) (stream : List ℕ) (items : List Item) : Type 0 where
   pub turns : List Turn
   pub rest : List ℕ

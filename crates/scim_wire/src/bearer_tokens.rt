@@ -9,8 +9,8 @@ use crate::octets::Octets;
 use scim_text::NoMemory;
 use std::alloc::Global;
 
-/// Returns the bytes of a header's value after the scheme `Bearer`, in any case, and one space; `None` if the
-/// value doesn't begin with them.
+/// Returns the part of a header's value after the scheme `Bearer`, in any case, and one space; `None` if the
+/// value doesn't begin with this scheme and a space.
 fn bearer(value: &[u8]) -> Option<&[u8]>
     ensures { option_copied result ≡ bearer value.now }
 {
@@ -25,7 +25,7 @@ fn bearer(value: &[u8]) -> Option<&[u8]>
     }
 }
 
-/// Returns the bearer token in the value if there is exactly one value; `None` otherwise.
+/// Returns the bearer token if there is exactly one value and its scheme is `Bearer`; `None` otherwise.
 fn lone_bearer<'b>(values: &[&'b [u8]]) -> Option<&'b [u8]>
     ensures { option_copied result ≡ lone_bearer (texts values.now) }
 {
@@ -35,9 +35,9 @@ fn lone_bearer<'b>(values: &[&'b [u8]]) -> Option<&'b [u8]>
     }
 }
 
-/// Returns the bearer token of the only header `Authorization`.
+/// Returns the bearer token in the header `Authorization`.
 ///
-/// `None` if there is no such header or more than one, or if its scheme isn't `Bearer`.
+/// `None` if there isn't exactly one such header, or if its scheme isn't `Bearer`.
 pub fn token_of(alloc: Global, headers: &[Header<'_>]) -> Result<Option<Octets>, NoMemory>
     ensures { IfOk result (λ token. token ≡ token_of (map header_parts headers.now)) }
 {

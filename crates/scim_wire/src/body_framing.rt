@@ -71,7 +71,9 @@ fn any_over_limit(lengths: &[&[u8]]) -> bool
 }
 
 /// Returns the framing for these values of `Content-Length`, which aren't above [`MAX_BODY`], and these
-/// values of `Transfer-Encoding`. Fails with `UnknownCoding` or `BadFraming` as [`framing_of`] does.
+/// values of `Transfer-Encoding`. Fails with `UnknownCoding` if the only value is a `Transfer-Encoding` other
+/// than `chunked`. Fails with `BadFraming` if there are several values, or if the `Content-Length` isn't a
+/// number.
 fn framing_by(lengths: &[&[u8]], codings: &[&[u8]]) -> Result<Framing, Refusal>
     requires { list_any is_over_limit (texts lengths.now) ≡ false }
     ensures { result ≡ framing_by (texts lengths.now) (texts codings.now) }

@@ -13,7 +13,7 @@ const MAX_LINE: usize = 1_024;
 #[derive(Clone, Copy)]
 pub struct BadLine;
 
-/// Whether an unfinished line can still end within [`MAX_LINE`].
+/// Whether an unfinished line can still end within [`MAX_LINE`] bytes.
 fn has_room(line: &[u8]) -> bool
     ensures { MatchBool result (HasRoom line.now) (¬ (HasRoom line.now)) }
 {

@@ -107,7 +107,8 @@ impl ChunkedPart {
         }
     }
 
-    /// Returns the state after a whole chunk line of this size. Fails as [`ChunkedPart::take`] does.
+    /// Returns the state after a whole chunk line with this size. Fails with [`BadChunks::TooLarge`] if the
+    /// content would exceed 1,048,576 bytes.
     fn after_line(mut self, size: u64) -> Result<ChunkStep, Failed<BadChunks>>
         ensures { (bytes : List ℕ) → HasChunks bytes self.body.items self.line.items
             → IsLineOf size self.line.items

@@ -1,4 +1,4 @@
-//! Parses the text of a head.
+//! Parses the text of a request's head.
 ghost use Rattle.std.specs.Prelude.{◌≡◌, length, map, All, IfOk};
 ghost use Rattle.httparse.specs.Spans.{IsHeaderWithin, header_bytes};
 ghost use Rattle.scim_text.specs.Failures.{UnlessMemory};
@@ -39,8 +39,8 @@ fn headers_at<'b>(
 
 /// Parses the text of a head (RFC 9112 sections 2 to 6).
 ///
-/// Fails with `BadHead` if the text isn't a request line with at most 64 headers. Otherwise fails with
-/// `TooLarge`, `BadFraming` or `UnknownCoding` as [`framing_of`] does.
+/// Fails with `BadHead` if the text isn't a request line with at most 64 headers. Otherwise fails with the
+/// error of [`framing_of`], if any: `TooLarge`, `BadFraming` or `UnknownCoding`.
 pub fn parse_message_head(alloc: Global, text: &[u8]) -> Result<MessageHead, Failed<Refusal>>
     ensures { UnlessMemory (ReadsMessage text.now) result }
 {

@@ -9,11 +9,11 @@ pub struct Message {
     pub method: Octets,
     /// The request target with its query, as in the request line.
     pub target: Octets,
-    /// The bearer token in the only header `Authorization`: the bytes after the scheme `Bearer`, in any case,
-    /// and one space (RFC 6750 section 2.1). `None` if there is no such header or more than one, or if its
-    /// scheme isn't `Bearer`.
+    /// The bearer token in the header `Authorization`: the part of the value after the scheme `Bearer`, in
+    /// any case, and one space (RFC 6750 section 2.1). `None` if there isn't exactly one such header, or if
+    /// its scheme isn't `Bearer`.
     pub token: Option<Octets>,
-    /// The body, at most 1,048,576 bytes; empty if the head announces none.
+    /// The body, at most 1,048,576 bytes; empty if the head announces no body.
     pub body: Octets,
     /// Whether the connection closes after the reply: the version is HTTP/1.0, or a header `Connection` has
     /// the option `close` (RFC 9112 sections 9.3 and 9.6).

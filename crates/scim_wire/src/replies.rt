@@ -13,8 +13,8 @@ use std::alloc::Global;
 #[derive(Clone, Copy)]
 pub struct HttpReply<'a> {
     /// The status code (RFC 9110 section 15), a number of three digits. Any other number is printed as it is,
-    /// without a phrase. 204 prints no `Content-Length`, since it has no body. This is a plain number rather
-    /// than a type of the crate `http`, so that callers don't depend on that crate.
+    /// without a phrase. With 204 no `Content-Length` is printed, since the reply has no body. This is a
+    /// plain number rather than a type of the crate `http`, so that callers don't depend on that crate.
     pub status: u16,
     /// The body, in JSON (RFC 7644 section 3.1).
     pub body: Option<&'a str>,
@@ -47,7 +47,7 @@ impl ReplyForm {
         }
     }
 
-    /// Returns the form of the reply to a message. It omits the body if the method is exactly `HEAD`.
+    /// Returns the form of the reply to a message. The reply omits its body if the method is exactly `HEAD`.
     pub fn of(message: &Message) -> ReplyForm
         ensures { result ≡ spec.form_of message.now }
     {

@@ -30,7 +30,7 @@ fn refused(refusal: Refusal) -> StateStep
     }
 }
 
-/// Returns the step that completes a message: the state is before the first byte of the next one.
+/// Returns the step that completes the message with this head and body. The next state expects a new message.
 fn whole(alloc: Global, head: MessageHead, body: Vec<u8>) -> StateStep
     ensures state { StandsAt result.state [] [] }
     ensures item { result.item ≡ Some (Item.Whole (message_of head body.items)) }
@@ -55,7 +55,8 @@ fn whole(alloc: Global, head: MessageHead, body: Vec<u8>) -> StateStep
     }
 }
 
-/// Returns `Item::Continue` if the client waits for it before it sends a body.
+/// Returns `Item::Continue` if the client may wait for 100 (Continue) before it sends the body; otherwise
+/// `None`, as when there is no body.
 fn announced(head: &MessageHead) -> Option<Item>
     ensures { option_to_list result ≡ announced head.now }
 {
@@ -92,7 +93,8 @@ fn begin_body(alloc: Global, head: MessageHead) -> StateStep
     }
 }
 
-/// Parses the text of a head, and returns the step after it. The step is a refusal if the head is invalid.
+/// Parses the text of a whole head, and returns the step after the head. The step is a refusal if the head is
+/// invalid.
 fn open_message(alloc: Global, text: &[u8]) -> Result<StateStep, NoMemory>
     ensures { (bytes : List ℕ) → OpensThen (λ t. IsHeadText t × (t ≡ text.now)) bytes []
         → IfOk result (λ r. Steps r.state r.item bytes []) }

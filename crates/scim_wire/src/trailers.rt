@@ -46,7 +46,7 @@ pub enum Trailed {
     More(TrailerPart),
     /// The trailers are finished.
     Whole,
-    /// No valid trailers continue with this byte.
+    /// The byte makes the trailers invalid.
     Bad,
 }
 

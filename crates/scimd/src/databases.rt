@@ -8,7 +8,7 @@ use scim_command_database::{DatabaseWork, Explaining, Importing, Question, unope
 use scim_json::read_documents;
 use sqlite::Connection;
 
-/// Opens the database at a path, runs a command on it, and closes it. The file is created if there is none.
+/// Opens the database at a path, runs a command on it, and closes it. Creates the file if it doesn't exist.
 ///
 /// Fails with `Database` or `NoMemory` if the database can't be opened, or with the error of the command. A
 /// failed close loses nothing: committed changes are in the log, which is read when the database is next

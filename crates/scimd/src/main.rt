@@ -17,8 +17,8 @@ use std::io::ErrorKind;
 use std::process::ExitCode;
 use std::{env, io};
 
-/// Runs the command line. If standard error can't be written, or memory runs out for the arguments, only the
-/// exit status shows the failure.
+/// Runs the command that the arguments name. If standard error can't be written, or memory runs out for the
+/// arguments, only the exit status shows the failure.
 fn main(rt: HostRuntime) -> ExitCode {
     match words(&rt) {
         Ok(words) => run_words(&rt, words.as_slice()),
@@ -61,7 +61,7 @@ fn run_matches(rt: &HostRuntime, matches: &ArgMatches<'_>) -> ExitCode {
     }
 }
 
-/// Runs the subcommand of the parsed arguments.
+/// Runs the command that the parsed arguments name, and returns its result.
 fn run_command(rt: &HostRuntime, matches: &ArgMatches<'_>) -> Result<(), CommandFault> {
     let Some((name, matches)) = matches.subcommand() else {
         return Err(CommandFault::BadOption);

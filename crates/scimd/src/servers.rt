@@ -17,7 +17,7 @@ use sqlite::{Alter, Connection};
 use std::alloc::Global;
 use std::io::Write;
 
-/// The command `serve` with the contents of its files.
+/// The command `serve` with its options and the contents of the policy and token files.
 #[derive(Drop)]
 struct Serving<'o> {
     rt: &'o HostRuntime,
@@ -55,7 +55,7 @@ impl DatabaseWork for Serving<'_> {
     }
 }
 
-/// Runs `serve`: serves a database, which is created if there is none. The policy and token files are read
+/// Runs `serve`: serves a database, which is created if it doesn't exist. The policy and token files are read
 /// before the database is opened.
 pub(crate) fn run_serve(rt: &HostRuntime, matches: &ArgMatches<'_>) -> Result<(), CommandFault> {
     let options = ServeOptions::of(matches)?;
@@ -78,7 +78,8 @@ pub(crate) fn run_serve(rt: &HostRuntime, matches: &ArgMatches<'_>) -> Result<()
     with_database(rt, options.database, serving)
 }
 
-/// Listens on the port and serves all connections.
+/// Listens on the port, and serves all connections. Fails with `CannotListen` if the server can't listen on
+/// the port, with `NoMemory` if memory runs out, and with the errors of [`serve_over`].
 fn serve_at_port<S: Shelf>(
     rt: &HostRuntime,
     options: &ServeOptions<'_>,
@@ -94,7 +95,8 @@ fn serve_at_port<S: Shelf>(
     }
 }
 
-/// Prints the address that the server listens on, and serves all connections.
+/// Prints the address that the server listens on, and serves all connections. Fails with `Output` if the
+/// address can't be printed, and with `CannotServe` if serving fails.
 fn serve_over<S: Shelf>(
     rt: &HostRuntime,
     sockets: &mut Sockets<'_, HostRuntime>,

@@ -2,6 +2,6 @@
 use Rattle.scim_cell.specs.declared.rows.Row.TheInside.{Inside as RowInside}
 use Rattle.scim_cell.specs.Rows.{Row}
 
--- the row with the unit and the fields of a stored row
+-- the row that contracts see for the private fields of a `Row`
 abbrev pub row_of : RowInside → Row
 row_of r = record { unit = r.unit; fields = r.fields.items }

@@ -15,28 +15,29 @@ use Rattle.scim_cell.specs.declared.rows.Field.{Field}
 use Rattle.scim_cell.specs.Rows.{Row}
 use Rattle.scim_cell.specs.SameValues.{is_members, member_value}
 
--- the text of an atom in a key
+-- the text that an atom adds to a key
 abbrev pub atom_key : Atom → List ℕ
 atom_key (Text t) = t
 atom_key (Truth true) = codes "true"
 atom_key (Truth false) = []
 atom_key (Moment m) = []
 
--- the text of an atom in a key, or the empty text
+-- the text that an atom adds to a key, or the empty text if there is no atom
 abbrev pub some_key : Option Atom → List ℕ
 some_key None = []
 some_key (Some atom) = atom_key atom
 
--- the name of a sub-attribute, or the empty text
+-- the name of a sub-attribute, or the empty text if there is no sub-attribute
 abbrev pub name_key : Option SubAttribute → List ℕ
 name_key None = []
 name_key (Some b) = sub_attribute_name b
 
--- the text of a field in a key: its sub-attribute, the length of its text and its text
+-- the text that a field adds to a key: the name of the sub-attribute, the length of the atom's text and the
+-- atom's text
 unfoldable pub field_key : Field → List ℕ
 field_key f = name_key f.leaf.sub_attribute ++ (codes " " ++ (decimal (length (atom_key f.atom)) ++ (codes " " ++ atom_key f.atom)))
 
--- the texts of fields in a key, joined
+-- the texts that the fields add to a key, joined in order
 abbrev pub fields_key : List Field → List ℕ
 fields_key fs = flat_map field_key fs
 
@@ -48,6 +49,6 @@ key_of a r = if is_members a then some_key (member_value r) else fields_key r.fi
 abbrev pub Places : Type 0
 Places = HashMap (String Global) ℕ (BuildHasherDefault FoldHasher)
 
--- the map has exactly the keys of the values
+-- the map contains a key exactly if one of the values has this key
 abbrev pub Covers : Places → Attribute → List Row → Type 0
 Covers m a rs = (q : List ℕ) → is_some (get_by_text m q) ≡ list_any (λ r. bytes_eq q (key_of a r)) rs

@@ -6,7 +6,7 @@ use Rattle.scim_schema.specs.declared.Attribute.TheVariants.{Id, ExternalId, Met
 use Rattle.scim_schema.specs.declared.schema_urns.Schema.{Schema}
 use Rattle.scim_schema.specs.Schemas.{schema_of, is_same_schema}
 
--- whether every resource has the attribute, whatever its schemas (RFC 7643 section 3.1)
+-- whether the attribute is common to all resources, whatever their schemas (RFC 7643 section 3.1)
 abbrev pub is_common : Attribute → Bool
 is_common Id = true
 is_common ExternalId = true

@@ -4,7 +4,7 @@ use Rattle.scim_cell.specs.Rows.{Row, Test, has_fields, restricted_row, restrict
 use Rattle.scim_filter.specs.declared.visible_rows.Look.{Look}
 use Rattle.scim_filter.specs.declared.visible_rows.Look.TheVariants as looks
 
--- the test for the fields that the filter may see
+-- whether the filter may see a field of a row, by the field's leaf
 unfoldable pub admitted : {T : Type 0} → (T → Test) → Look T → Test
 admitted keeps looks.Everything r leaf = true
 admitted keeps (looks.Admitted test) r leaf = keeps test.now r leaf

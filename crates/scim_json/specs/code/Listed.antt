@@ -12,10 +12,11 @@ use Rattle.scim_json.specs.Documents.{documents_and}
 abbrev pub item_depth : ℕ
 item_depth = 126
 
--- the tokens begin with the stored document of the resource, and `rest` follows it
+-- the tokens begin with the stored document of the resource, and `rest` are the tokens after it
 abbrev pub ReadsItem : List Token → Content → List Token → Type 0
 ReadsItem ts c rest = (j : json.Json) × (json.value item_depth ts ≡ Some (j, rest)) × (of_json j ≡ Some (stored_data c))
 
--- the tokens begin with the stored documents of the resources and the end of the list, and `rest` follows
+-- the tokens begin with the stored documents of the resources and the end of the list, and `rest` are the
+-- tokens after that
 abbrev pub ReadsItems : List Token → List Content → List Token → Type 0
 ReadsItems ts cs rest = (js : json.Items) × (json.items (json.value item_depth) (length ts) ts ≡ Some (js, rest)) × (of_items js ≡ Some (documents_and cs no_items))

@@ -7,12 +7,12 @@ use Rattle.scim_patch_message.specs.declared.faults.PatchFault.{PatchFault}
 use Rattle.scim_patch_message.specs.declared.message_readings.Reading.{Reading}
 use Rattle.scim_patch_message.specs.Readings.{Read}
 
--- the fault, if there is one, otherwise the steps
+-- the fault; the steps if there is no fault
 abbrev pub steps_or_fault : List KeptStep → Option PatchFault → Read
 steps_or_fault steps None = Ok (map step_of steps)
 steps_or_fault steps (Some f) = Err f
 
--- the steps of a reading, or its fault
+-- the steps of a reading, or the fault of the reading if it has one
 abbrev pub read_of : Reading → Read
 read_of r = steps_or_fault r.steps.items r.fault
 

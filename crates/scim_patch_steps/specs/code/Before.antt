@@ -1,4 +1,4 @@
--- What the code keeps of a resource before a patch, to detect afterwards whether its values changed.
+-- The data that the code records before a patch, to detect afterwards whether the resource's values changed.
 use Rattle.std.specs.Prelude.{◌≡◌, Bool, not, ◌||◌, ◌==◌, List, length, AllPairs, Some}
 use Rattle.std.specs.List.{list_any}
 use Rattle.scim_cell.specs.Rows.{Row, values, Precedes}
@@ -8,17 +8,18 @@ use Rattle.scim_patch_steps.specs.Patch.{Patch, touched, is_unseen_writing, chan
 use Rattle.scim_patch_steps.specs.code.Lengths.{unit_told_by_length}
 use Rattle.scim_patch_steps.specs.code.Touched.{rows_about}
 
--- the kept rows are in order of their units
+-- the recorded rows, if any, are in the order of their units
 abbrev pub IsInOrder : Before → Type 0
 IsInOrder (Number u n) = Unit {0}
 IsInOrder (Rows v) = AllPairs (λ (r s : Row). Precedes r.unit s.unit) v.items
 
--- this is what the code keeps of the rows before the patch
+-- the last argument is the data that the code records for these rows before the patch: the number of values
+-- of the only unit, or the rows of the units that the patch names
 abbrev pub IsBefore : Patch → List Row → Before → Type 0
 IsBefore p rs (Number u n) = (unit_told_by_length p ≡ Some u) × (n ≡ length (values u rs))
 IsBefore p rs (Rows v) = (v.items ≡ rows_about (touched p) rs) × IsInOrder (Rows v)
 
--- whether the patch changed something, judged by the kept values and the rows after the patch
+-- whether the patch changed something, according to the recorded data and the rows after the patch
 abbrev pub tells : Patch → List Row → Before → Bool
 tells p rs (Number u n) = list_any (is_unseen_writing p.kind) p.steps || not (length (values u rs) == n)
 tells p rs (Rows v) = changes p v.items rs

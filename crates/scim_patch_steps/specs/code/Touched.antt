@@ -6,14 +6,14 @@ use Rattle.scim_schema.specs.Units.{is_same_unit}
 use Rattle.scim_cell.specs.Rows.{Row, values}
 use Rattle.scim_change.specs.Agreement.{are_same_values}
 
--- whether a unit is one of these units
+-- whether the unit is in the list
 abbrev pub is_about : List AttributeUnit → AttributeUnit → Bool
 is_about us u = list_any (is_same_unit u) us
 
--- the rows of these units
+-- the rows that belong to one of these units
 abbrev pub rows_about : List AttributeUnit → List Row → List Row
 rows_about us rs = filter (λ (r : Row). is_about us r.unit) rs
 
--- whether a unit has other values afterwards than before
+-- whether the rows before and the rows afterwards have different values of the unit
 abbrev pub is_other : List Row → List Row → AttributeUnit → Bool
 is_other before rs u = not (are_same_values (values u before) (values u rs))

@@ -1,4 +1,4 @@
--- The set of texts by which the code finds listed values.
+-- The set of texts in which the code looks up the `value` of each value.
 use Rattle.std.specs.Prelude.{ℕ, ◌≡◌, String, List}
 use Rattle.std.specs.List.{list_any}
 use Rattle.std.specs.Str.{bytes_eq}

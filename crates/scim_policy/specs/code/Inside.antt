@@ -5,7 +5,7 @@ use Rattle.scim_policy.specs.declared.rules.Rule.TheInside.{Inside as RuleInside
 use Rattle.scim_policy.specs.declared.rules.Policy.TheInside.{Inside as PolicyInside}
 use Rattle.scim_policy.specs.Rules.{Rule}
 
--- a stored rule in the form of the specification
+-- the specified rule that represents a stored rule
 abbrev pub rule_of : RuleInside → Rule
 rule_of r = record { allow = r.allow; clients = r.clients.items; ops = r.ops.items; kinds = r.kinds.items; targets = r.targets.items; paths = r.paths.items }
 

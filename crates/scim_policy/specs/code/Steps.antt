@@ -13,8 +13,8 @@ use Rattle.scim_filter_grammar.specs.contracts.tree.AttributePath as path
 use Rattle.scim_filter_grammar.specs.Tree as tree
 use Rattle.scim_filter_grammar.specs.Tree.{Tree}
 
--- a step pushes a leaf of the tree, or replaces the top one or two trees of the stack by a tree built from
--- them
+-- a step pushes a leaf of the tree, or replaces the top tree or the top two trees of the stack by a tree
+-- built from them
 pub data Step : Type 0 where
   Or : Step
   And : Step

@@ -35,7 +35,7 @@ by_name b d sub = if option_eq (sameb the_sub_attribute) sub (Some b) then Some 
 abbrev pub by_rule : List ℕ → Op → Content → Leaf → ℕ → Rule → Option Decision
 by_rule client op c l n r = if speaks_of client op c r then by_paths (paths_on c.kind r.paths) (record { rule = n; allow = r.allow }) l else None
 
--- the decision on a leaf by the first of the rules that decides it; the rules are numbered from n
+-- the decision on a leaf of the first rule that fits, if there is one; the rules are numbered from n
 abbrev pub by_rules : List ℕ → Op → Content → Leaf → ℕ → List Rule → Option Decision
 by_rules client op c l n [] = None
 by_rules client op c l n (r ∷ rs) = or_else (by_rule client op c l n r) (by_rules client op c l (n + 1) rs)
@@ -49,6 +49,7 @@ is_for client c r = list_any (names client) r.clients && (list_any (sameb the_ki
 abbrev pub by_op : Op → Kind → ℕ → Rule → Leaf → Option Decision
 by_op op kind n r l = if list_any (sameb the_op op) r.ops then by_paths (paths_on kind r.paths) (record { rule = n; allow = r.allow }) l else None
 
--- the new table has the old decisions, and the added decisions for leaves that had none
+-- the new table has the decisions of the old table, and `added` for the leaves that the old table doesn't
+-- decide
 abbrev pub Adds : (Leaf → Option Decision) → Decisions → Decisions → Type 0
 Adds added old new = (l : Leaf) → decided new l ≡ or_else (decided old l) (added l)

@@ -1,4 +1,4 @@
--- The specified endpoints that the code's types represent.
+-- The `Place` that an endpoint or a route of the code represents.
 use Rattle.std.specs.Prelude.{ℕ, List, Option, Some, option_map}
 use Rattle.scim_schema.specs.Lookup.{kind_named, schema_named}
 use Rattle.scim_route.specs.declared.endpoints.DiscoveryPage.TheVariants.{ResourceType as resource_type, Schema as schema}
@@ -8,7 +8,7 @@ use Rattle.scim_route.specs.declared.endpoints.Endpoint.{Endpoint}
 use Rattle.scim_route.specs.declared.endpoints.Endpoint.TheVariants.{Unsupported, Discovery, Collection, Search, Resource}
 use Rattle.scim_route.specs.Endpoints.{Place, unsupported, page, collection, search, resource}
 
--- the specified endpoint that the code's endpoint represents
+-- the `Place` that an `Endpoint` represents
 abbrev pub place_at : Endpoint → Place
 place_at Unsupported = unsupported
 place_at (Discovery p) = page p
@@ -17,7 +17,7 @@ place_at (Search kind) = search kind
 place_at (Resource kind text) = resource kind text.now
 
 -- the endpoint that a route leads to, where `text` is the part of the path after the first segment and its
--- slash; `None` if the route needs the name of a resource type or schema and `text` isn't one
+-- slash; `None` if `text` should name a resource type or a schema, but doesn't
 abbrev pub led : Leads → List ℕ → Option Place
 led LeadsNowhere text = Some unsupported
 led (LeadsToPage p) text = Some (page p)

@@ -4,7 +4,7 @@ use Rattle.scim_cell.specs.Content.{Content}
 use Rattle.scim_cell.specs.Equality.{is_same_id}
 use Rattle.scim_shelf.specs.Stores.{without}
 
--- The resources other than the one with an id, if one is given.
+-- The resources whose id isn't the given one; all resources if no id is given.
 abbrev pub beside : Option (List ℕ) → List Content → List Content
 beside None cs = cs
 beside (Some id) cs = without id cs

@@ -15,8 +15,8 @@ abbrev pub HasRights : Viewer → Reached → Type 0
 HasRights v (Reached.Seen c rights) = access_in rights ≡ access_to v c
 HasRights v (Reached.Told plan) = ⊤
 
--- The request names this resource and the client sees it, or the plan is the one for a resource that doesn't
--- exist or that the client doesn't see.
+-- With `Seen`: the request names the resource `c`, and the client sees it. With `Told`: the plan refuses the
+-- request because the resource doesn't exist or the client doesn't see it.
 abbrev pub IsReached : Viewer → Turn → List Content → Reached → Type 0
 IsReached v turn cs (Reached.Seen c rights) = (Some c ≡ sought_resource turn cs) × ((read_decision v c (simple Id)).allow ≡ true)
 IsReached v turn cs (Reached.Told plan) = (next : Content → Plan) → plan ≡ plan_for_seen v turn next (sought_resource turn cs)

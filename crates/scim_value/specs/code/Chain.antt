@@ -1,4 +1,4 @@
--- A check of cells in order of place, one after another.
+-- Checks cells one after another, in order of place.
 use Rattle.std.specs.Prelude.{◌≡◌, ◌+◌, ◌≤◌, ◌⊎◌, true, Option, None, Some, List, [], ◌∷◌}
 use Rattle.std.specs.declared.cmp.Ordering.TheVariants.{Less}
 use Rattle.scim_schema.specs.declared.Kind.{Kind}
@@ -12,8 +12,8 @@ use Rattle.scim_cell.specs.Content.{Entry, IsOfKind}
 abbrev pub GoesOn : Place → Place → Type 0
 GoesOn last p = (is_multi_valued p.attribute ≡ true) × (last.attribute ≡ p.attribute) × (p.position ≤ last.position + 1)
 
--- a cell at the second place may come right after a cell at the first place, or be the first cell if no first
--- place is given
+-- a cell at the place `p` may come right after a cell at the place `last`, or be the first cell if `last` is
+-- None
 abbrev pub Follows : Option Place → Place → Type 0
 Follows None p = p.position ≡ 0
 Follows (Some last) p = (place_cmp last p ≡ Less) × ((p.position ≡ 0) ⊎ GoesOn last p)

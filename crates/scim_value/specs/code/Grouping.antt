@@ -1,4 +1,4 @@
--- The grouping of cells in order of place into rows, one cell after another.
+-- Groups cells, which are in order of place, into rows, one cell after another.
 use Rattle.std.specs.Prelude.{Bool, true, false, Option, None, Some, List, [], ◌∷◌, ◌++◌}
 use Rattle.scim_cell.specs.declared.places.Place.{Place}
 use Rattle.scim_cell.specs.Content.{Entry}
@@ -8,8 +8,8 @@ use Rattle.scim_cell.specs.Rows.{Row, unit_at, field_of, goes_with}
 abbrev pub row_with : Entry → Row
 row_with e = record { unit = unit_at e.0; fields = field_of e ∷ [] }
 
--- rows with a cell added at the end: to the last row if the flag is true and there is one, otherwise as a new
--- row
+-- adds a cell at the end: as the last field of the last row if the flag is true and there is a row, otherwise
+-- as a new last row
 abbrev pub grouped : Bool → Entry → List Row → List Row
 grouped false e rs = rs ++ row_with e ∷ []
 grouped true e [] = row_with e ∷ []

@@ -18,7 +18,7 @@ use Rattle.scim_policy.specs.declared.rules.Decision.{Decision}
 use Rattle.scim_view.specs.declared.computed_groups.SeenGroup.{SeenGroup}
 use Rattle.scim_view.specs.Groups.{display_of}
 
--- the fields that the decisions on reading resources of the kind let be seen
+-- the fields that the decisions on reading resources of the kind make visible
 abbrev pub shown_fields : (Leaf → Decision) → Kind → List Field → List Field
 shown_fields decision kind fs = filter (λ (f : Field). not (is_write_only kind f.leaf) && (decision f.leaf).allow) fs
 

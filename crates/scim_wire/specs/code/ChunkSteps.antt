@@ -8,7 +8,8 @@ use Rattle.scim_wire.specs.Fronts.{IsFrontOf}
 use Rattle.scim_wire.specs.Chunked.{IsLine, IsLineOf, AreTrailers, HasChunks, most_content}
 use Rattle.scim_wire.specs.code.Trailers.{IsRest, GoesOn}
 
--- the bytes end in a chunk's data, of which `left` bytes are missing, followed by the bytes `after`
+-- the bytes consist of whole chunks, a chunk line, the first part of this chunk's data (of which `left` bytes
+-- are missing), and the bytes `after`; `body` is the content so far
 pub record IsInData (bytes body : List ℕ) (left : ℕ) (after : List ℕ) : Type 0 where
   pub before : List ℕ
   pub line : List ℕ
@@ -19,7 +20,7 @@ pub record IsInData (bytes body : List ℕ) (left : ℕ) (after : List ℕ) : Ty
   pub some : 0 < length now_held + left
   pub within : length before + (length now_held + left) ≤ most_content
 
--- the bytes end in trailers, and the part describes exactly what may follow
+-- the bytes end within the trailers, and the texts that may follow are exactly those that `part` allows
 pub record IsInTrailers (bytes body : List ℕ) (part : TrailerPart) : Type 0 where
   pub line : List ℕ
   pub text : List ℕ

@@ -32,7 +32,8 @@ StandsAt (state.InBody part) bytes items = HoldsBody part bytes × (items ≡ an
 StandsAt (state.InChunks part) bytes items = HoldsChunks part bytes × (items ≡ announced part.head)
 StandsAt state.Shut bytes items = LeavesRefused bytes items
 
--- reading the last of these bytes leads to this state, and to one more item or none; `items` were read before
+-- reading the last of these bytes results in the state `next` and in the given item, if any; `items` are the
+-- items that were read before
 abbrev pub Steps : State → Option Item → List ℕ → List Item → Type 0
 Steps next None bytes items = StandsAt next bytes items
 Steps next (Some Continue) bytes items = StandsAt next bytes (items ++ Continue ∷ [])
