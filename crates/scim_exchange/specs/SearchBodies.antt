@@ -34,8 +34,8 @@ unfoldable pub integer_given : Option Data → Result (Option ℤ) Refusal
 integer_given None = Ok None
 integer_given (Some d) = ok_or (option_map Some (option_and_then as_i64 (as_number d))) MessageValue
 
--- the text of a list's item as a list of one text; the empty list for null and `[]`, and `None` for any other
--- JSON value
+-- reads an item of a list of strings: a list with its text if the item is a string, the empty list if it is
+-- null or `[]`, and `None` if it is any other JSON value
 abbrev pub text_item : Data → Option (List (List ℕ))
 text_item d = if is_absent d then Some [] else option_map (λ text. text ∷ []) (as_str d)
 

@@ -26,9 +26,9 @@ fn names_nothing(kind: Kind, key: &str) -> bool
     }
 }
 
-/// Appends the steps of an operation without a path for one key of the value. The key is a path.
-/// Keys of readOnly targets and of attributes that the kind lacks are ignored. Records the fault `Path` if
-/// the key isn't a valid path, or the fault of the value if the value is wrong.
+/// Appends the steps for one key of the value of an operation that has no `path`. The key is read as a path.
+/// It is ignored if its target is readOnly or if the kind has no such attribute. Records the fault `Path` if
+/// the key isn't a valid path, or the fault of the key's value if that value is wrong.
 fn push_member(
     alloc: Global,
     kind: Kind,
