@@ -1,28 +1,40 @@
 -- What was read of a database is what it is.
-use Rattle.std.proofs.Common.{◌≡◌, ◌≢◌, ℕ, List, [], ◌∷◌, map, Bool, false, IsTrue, inl, inr, refl, subst, subst₂}
-use Rattle.std.specs.Prelude.{IsPermutation}
+use Rattle.std.proofs.Common.{◌≡◌, ◌≢◌, ℕ, zero, suc, List, [], ◌∷◌, map, length, inl, inr, refl, sym, subst, subst₂, arith}
+use Rattle.std.specs.Prelude.{IsPermutation, Contains}
 use Rattle.std.specs.List.{AllByRecursion}
-use Rattle.std.proofs.lemmas.List.Sorted.{IsPermutation-sym, IsPermutation-trans, IsPermutation-refl, IsPermutation-map}
+use Rattle.std.proofs.lemmas.List.Sorted.{IsPermutation-sym, IsPermutation-trans, IsPermutation-refl, IsPermutation-map, length_permutation, Contains-permutation}
 use Rattle.sqlite.specs.Effect.{Database}
 use Rattle.sqlite.specs.Order.{Row, column}
 use Rattle.sqlite.specs.State.{State, IsUnchanged}
-use Rattle.sqlite.proofs.Callers.{one_permutation}
 use Rattle.scim_store_tables.specs.Tables.{store_schema}
 use Rattle.scim_store_tables.specs.Lists.{Lists, Are, version_values, pair, triple}
 use Rattle.scim_store_tables.specs.Reading.{shown, shown_settings, owner_first, group_first}
-use Rattle.scim_store_tables.specs.code.Told.{Decides}
-use Rattle.scim_store_tables.specs.Whole.{HasVersion, AreAllKeyed, AreInOrder, AreRowsOf, IsByRows, IsReading, Is, AreNone}
+use Rattle.scim_store_tables.specs.Whole.{NamesVersion, HasVersion, AreAllKeyed, AreInOrder, AreRowsOf, IsByRows, IsReading, Is, AreNone}
 use Rattle.scim_store_tables.specs.declared.database_kinds.TableRows.{TableRows}
 use Rattle.scim_store_tables.specs.declared.database_kinds.DatabaseKind.{DatabaseKind}
 use Rattle.scim_store_tables.specs.declared.database_kinds.DatabaseKind.TheVariants.{WrongVersion, Foreign}
 
 -- ---- the settings
 
-pub version_told : (db : Database) (rows : List Row) (has : Bool) → AreInOrder [] (shown_settings db) rows → (IsTrue has → rows ≡ version_values ∷ []) → (has ≡ false → rows ≢ version_values ∷ []) → Decides (HasVersion db) has
-version_told db rows has are is_one is_other = record {
-  yes = λ holds. subst (λ xs. IsPermutation (shown_settings db) xs) (is_one holds) are.same;
-  no = λ fails same. is_other fails (one_permutation version_values rows (IsPermutation-trans _ _ _ (IsPermutation-sym _ _ same) are.same));
-}
+-- the rows that were read are those that the table shows
+pub version_named : (db : Database) (rows : List Row) → AreInOrder [] (shown_settings db) rows → Contains rows version_values → NamesVersion db
+version_named db rows are has = Contains-permutation _ _ version_values (IsPermutation-sym _ _ are.same) has
+
+pub version_lacking : (db : Database) (rows : List Row) → AreInOrder [] (shown_settings db) rows → ¬ Contains rows version_values → ¬ NamesVersion db
+version_lacking db rows are lacks has = lacks (Contains-permutation _ _ version_values are.same has)
+
+-- the one row, if it is the only one
+pub version_alone : (db : Database) (rows : List Row) → AreInOrder [] (shown_settings db) rows → Contains rows version_values → length rows ≡ 1 → HasVersion db
+version_alone db [] are has one = absurd cc
+version_alone db (row ∷ []) are has one = subst (λ (r : Row). IsPermutation (shown_settings db) (r ∷ [])) (only has) are.same
+  where
+    only : Contains (row ∷ []) version_values → row ≡ version_values
+    only (zero, within, at) = at
+    only (suc k, within, at) = absurd (omega (arith, within))
+version_alone db (row ∷ other ∷ rows) are has one = absurd (omega (arith, one))
+
+pub version_among : (db : Database) (rows : List Row) → AreInOrder [] (shown_settings db) rows → length rows ≢ 1 → ¬ HasVersion db
+version_among db rows are more version = more (sym (length_permutation _ _ (IsPermutation-trans _ _ _ (IsPermutation-sym _ _ are.same) version)))
 
 -- ---- what a database is
 
@@ -49,11 +61,11 @@ is_reading old new reading has told = record {
 none_of_others : (db : Database) → db.schema ≢ store_schema → AreNone db
 none_of_others db other lists are = other are.schema
 
-none_of_version : (db : Database) → ¬ HasVersion db → AreNone db
-none_of_version db other lists are = other are.version.same
+none_of_version : (db : Database) → ¬ NamesVersion db → AreNone db
+none_of_version db other lists are = other (Contains-permutation _ _ version_values (IsPermutation-sym _ _ are.version.same) (0, omega arith, refl))
 
-none_of_foreign : (db : Database) → ¬ AreAllKeyed db → AreNone db
-none_of_foreign db other lists are = other (record { settings = are.version.keys; resources = are.resources.keys; names = are.taken.keys; members = are.member.keys })
+none_of_foreign : (db : Database) → ¬ (HasVersion db × AreAllKeyed db) → AreNone db
+none_of_foreign db other lists are = other (are.version.same, record { settings = are.version.keys; resources = are.resources.keys; names = are.taken.keys; members = are.member.keys })
 
 -- a database of another version has none of our rows
 pub other_none : (db : Database) → Is db WrongVersion → AreNone db

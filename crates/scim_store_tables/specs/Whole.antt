@@ -1,5 +1,5 @@
 -- The classification of a database, and all rows of its tables.
-use Rattle.std.specs.Prelude.{◌≡◌, ◌≢◌, ◌⊎◌, ℕ, Bool, false, true, ◌&&◌, ◌||◌, if◌then◌else◌, IsTrue, codes, List, [], ◌∷◌, map, IsPermutation}
+use Rattle.std.specs.Prelude.{◌≡◌, ◌≢◌, ◌⊎◌, ℕ, Bool, false, true, ◌&&◌, ◌||◌, if◌then◌else◌, IsTrue, codes, List, [], ◌∷◌, map, Contains, IsPermutation}
 use Rattle.std.specs.List.{list_any}
 use Rattle.sqlite.specs.Effect.{Database}
 use Rattle.sqlite.specs.Order.{Row}
@@ -33,6 +33,10 @@ abbrev pub is_of_other_version : Schema → Bool
 is_of_other_version schema = if has_table schema (codes "setting") then has_others schema else has_another schema
 
 -- ---- classification by rows
+
+-- The table `setting` has a row that says that the tables have version 1.
+abbrev pub NamesVersion : Database → Type 0
+NamesVersion db = Contains (shown_settings db) version_values
 
 -- The table `setting` has exactly one row, which says that the tables have version 1.
 abbrev pub HasVersion : Database → Type 0
@@ -73,13 +77,13 @@ IsByNames schema WrongVersion = (schema ≢ no_schema) × (is_of_other_version s
 IsByNames schema Foreign = (schema ≢ no_schema) × (is_of_other_version schema ≡ false)
 IsByNames schema (Tables rows) = ⊥
 
--- The classification by rows of a database with the five tables: `WrongVersion` if `setting` doesn't have
--- exactly the row of version 1, `Foreign` if a row has no key or a key occurs twice, which never happens in a
--- valid file, and `Tables` with the rows otherwise.
+-- The classification by rows of a database with the five tables: `WrongVersion` if `setting` doesn't have the
+-- row of version 1; `Foreign` if it has that row and others, or if a row has no key or a key occurs twice,
+-- which never happens in a valid file; and `Tables` with the rows otherwise.
 abbrev pub IsByRows : Database → DatabaseKind → Type 0
 IsByRows db Empty = ⊥
-IsByRows db WrongVersion = ¬ HasVersion db
-IsByRows db Foreign = HasVersion db × (¬ AreAllKeyed db)
+IsByRows db WrongVersion = ¬ NamesVersion db
+IsByRows db Foreign = NamesVersion db × (¬ (HasVersion db × AreAllKeyed db))
 IsByRows db (Tables rows) = Are db (shown db) × AreRowsOf (shown db) rows
 
 -- The classification of a database: by rows if it has the schema of version 1, and by table names otherwise.

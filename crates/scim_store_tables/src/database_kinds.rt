@@ -1,6 +1,6 @@
 //! Classifies a database by its schema and its rows, and reads the rows if it has the tables of version 1.
 
-ghost use Rattle.std.specs.Prelude.{◌≡◌, ◌≢◌, ◌≤◌, ◌∷◌, [], false, true, pos, IfOk, OnErr, IsTrue};
+ghost use Rattle.std.specs.Prelude.{◌≡◌, ◌≢◌, ◌≤◌, ◌∷◌, [], false, true, pos, Contains, IfOk, OnErr, IsTrue};
 ghost use Rattle.sqlite_value.specs.Value.{owned};
 ghost use Rattle.sqlite.specs.declared.types.Value.TheVariants.{Int, Text};
 ghost use Rattle.sqlite.specs.State.{HasCleanDisk, Survives};
@@ -11,7 +11,7 @@ ghost use Rattle.scim_store_tables.specs.Tables.{no_schema};
 ghost use Rattle.scim_store_tables.specs.Whole as spec;
 ghost use Rattle.scim_store_tables.specs.Reading.{Rests, shown};
 ghost use Rattle.scim_store_tables.specs.code.Told.{OnlyAsks, Decides, DecidesKeyed};
-ghost use Rattle.scim_store_tables.specs.Whole.{HasVersion, AreAllKeyed, AreRowsOf, IsByNames, IsByRows, IsReading};
+ghost use Rattle.scim_store_tables.specs.Whole.{AreAllKeyed, AreRowsOf, IsByNames, IsByRows, IsReading};
 
 use crate::asking::{read_keys, read_rows};
 use crate::keys::do_keys_rise;
@@ -42,7 +42,7 @@ pub enum DatabaseKind {
     Empty,
     /// It has tables of this program, but of a version other than 1.
     WrongVersion,
-    /// It belongs to another program, or is damaged.
+    /// It belongs to another program, was changed by one, or is damaged.
     Foreign,
     /// It has the tables of version 1, with these rows.
     Tables(TableRows),
@@ -156,24 +156,17 @@ fn is_version_row(row: &Row) -> Result<bool, Error>
     Ok(is_text(name, "version") && is_number(number, 1))
 }
 
-/// Whether these rows of `setting` are exactly one row, which says that the tables have version 1.
-fn is_version(rows: &[Row]) -> Result<bool, Error>
-    ensures yes { IfOk result (λ is. IsTrue is → rows.now ≡ version_values ∷ []) }
-    ensures no { IfOk result (λ is. is ≡ false → rows.now ≢ version_values ∷ []) }
+/// Whether one of these rows of `setting` says that the tables have version 1.
+fn names_version(rows: &[Row]) -> Result<bool, Error>
+    ensures yes { IfOk result (λ names. IsTrue names → Contains rows.now version_values) }
+    ensures no { IfOk result (λ names. names ≡ false → ¬ Contains rows.now version_values) }
 {
-    match rows {
-        [only] => is_version_row(only),
-        _ => Ok(false),
+    for row in rows {
+        if is_version_row(row)? {
+            return Ok(true);
+        }
     }
-}
-
-/// Whether `setting` has exactly one row, which says version 1. The schema must have exactly the five tables.
-fn has_version<S: Alter>(conn: &mut Connection<S>) -> Result<bool, Error>
-    ensures { OnlyAsks (λ db. Decides (HasVersion db)) (state S.Store conn.old)
-        (state S.Store conn.new) result }
-{
-    let rows = read_rows(conn, Table::Setting)?;
-    is_version(rows.as_slice())
+    Ok(false)
 }
 
 /// Whether each row of a table has a key and no key occurs twice. The schema must have exactly the five
@@ -225,8 +218,12 @@ fn read_all_rows<S: Alter>(conn: &mut Connection<S>) -> Result<TableRows, Error>
 fn reading_by_rows<S: Alter>(conn: &mut Connection<S>) -> Result<DatabaseKind, Error>
     ensures { OnlyAsks IsByRows (state S.Store conn.old) (state S.Store conn.new) result }
 {
-    if !has_version(conn)? {
+    let settings = read_rows(conn, Table::Setting)?;
+    if !names_version(settings.as_slice())? {
         return Ok(DatabaseKind::WrongVersion);
+    }
+    if settings.len() != 1 {
+        return Ok(DatabaseKind::Foreign);
     }
     if !are_all_keyed(conn)? {
         return Ok(DatabaseKind::Foreign);
@@ -243,8 +240,8 @@ fn reading_by_rows<S: Alter>(conn: &mut Connection<S>) -> Result<DatabaseKind, E
 /// `setting`, but at least one of the other four; otherwise it is `Foreign`. Names are compared ignoring the
 /// case of ASCII letters. So a database of another program that has a table `setting`, but not all of the
 /// other four, is `Foreign`, whatever its rows are. A database with the schema of version 1 is `WrongVersion`
-/// if `setting` doesn't have exactly the row of version 1, and `Foreign` if a key occurs twice, which never
-/// happens in a valid file.
+/// if `setting` doesn't have the row of version 1, and `Foreign` if it has that row and others, or if a key
+/// occurs twice, which never happens in a valid file.
 ///
 /// Fails with the database's error, or if a key isn't a number. Then the connection is closed, or its
 /// database is unchanged or as the last commit left it. A crash leaves only a state that a crash before the

@@ -1,43 +1,69 @@
-use Rattle.std.proofs.Common.{rules, ◌≡◌, true, false}
+use Rattle.std.proofs.Common.{rules, ◌≡◌, ◌≢◌, true, false, length, subst}
+use Rattle.std.specs.Prelude.{Contains}
 use Rattle.sqlite.specs.Held.{state}
+use Rattle.scim_store_tables.specs.Lists.{version_values}
 use Rattle.scim_store_tables.proofs.ToldLemmas.{told_both, told_failed, told_as}
-use Rattle.scim_store_tables.proofs.WholeLemmas.{shown_are}
+use Rattle.scim_store_tables.proofs.WholeLemmas.{version_named, version_lacking, version_alone, version_among, shown_are}
 use Rattle.scim_store_tables.proofs.database_kinds.reading_by_rows.Goals as goal
+
+pub returns-then-not-branch : goal.returns-then-not-branch
+returns-then-not-branch g c =
+    let old = state g.S.Store c.args.conn.now in
+    let rows = c.in_ok-settings.settings in
+    let fails : c.in_ok-names_version.field-0 ≡ false = search rules in
+    let lacks = subst (λ xs. ¬ Contains xs version_values) c.as_slice.ensures.value (c.in_ok-names_version.ensures.no fails) in
+    told_as _ _ old (state g.S.Store c.read_rows.new.conn) rows _ c.in_ok-settings.ensures (λ schema are. version_lacking old.now rows.items are lacks)
+
+pub returns-then-len-ne1 : goal.returns-then-len-ne1
+returns-then-len-ne1 g c =
+    let old = state g.S.Store c.args.conn.now in
+    let rows = c.in_ok-settings.settings in
+    let names : c.in_ok-names_version.field-0 ≡ true = search rules in
+    let has = subst (λ xs. Contains xs version_values) c.as_slice.ensures.value (c.in_ok-names_version.ensures.yes names) in
+    let more : length rows.items ≢ 1 = search rules in
+    told_as _ _ old (state g.S.Store c.read_rows.new.conn) rows _ c.in_ok-settings.ensures
+    (λ schema are. (version_named old.now rows.items are has, λ both. version_among old.now rows.items are more both.0))
 
 pub returns-in_err-are_all_keyed : goal.returns-in_err-are_all_keyed
 returns-in_err-are_all_keyed g c =
     let old = state g.S.Store c.args.conn.now in
-    let a = state g.S.Store c.has_version.new.conn in
+    let a = state g.S.Store c.read_rows.new.conn in
     let b = state g.S.Store c.are_all_keyed.new.conn in
     told_failed _ _ old b c.in_err-are_all_keyed.field-0.0 c.from_residual-in_err-are_all_keyed.result c.from_residual-in_err-are_all_keyed.ensures.0
-    (told_both _ _ old a b _ _ c.in_ok-has_version.ensures c.in_err-are_all_keyed.ensures)
+    (told_both _ _ old a b _ _ c.in_ok-settings.ensures c.in_err-are_all_keyed.ensures)
 
 pub returns-then-not-branch-2 : goal.returns-then-not-branch-2
 returns-then-not-branch-2 g c =
     let old = state g.S.Store c.args.conn.now in
-    let a = state g.S.Store c.has_version.new.conn in
+    let a = state g.S.Store c.read_rows.new.conn in
     let b = state g.S.Store c.are_all_keyed.new.conn in
-    let version : c.in_ok-has_version.field-0 ≡ true = search rules in
+    let rows = c.in_ok-settings.settings in
+    let names : c.in_ok-names_version.field-0 ≡ true = search rules in
+    let has = subst (λ xs. Contains xs version_values) c.as_slice.ensures.value (c.in_ok-names_version.ensures.yes names) in
     let fails : c.in_ok-are_all_keyed.field-0 ≡ false = search rules in
-    told_as _ _ old b c.in_ok-are_all_keyed.field-0 _ (told_both _ _ old a b _ _ c.in_ok-has_version.ensures c.in_ok-are_all_keyed.ensures) (λ schema all. (all.0.yes version, all.1.no fails))
+    told_as _ _ old b c.in_ok-are_all_keyed.field-0 _ (told_both _ _ old a b rows _ c.in_ok-settings.ensures c.in_ok-are_all_keyed.ensures)
+    (λ schema all. (version_named old.now rows.items all.0 has, λ both. all.1.no fails both.1))
 
 pub returns-in_err-rows : goal.returns-in_err-rows
 returns-in_err-rows g c =
     let old = state g.S.Store c.args.conn.now in
-    let a = state g.S.Store c.has_version.new.conn in
+    let a = state g.S.Store c.read_rows.new.conn in
     let b = state g.S.Store c.are_all_keyed.new.conn in
     let new = state g.S.Store c.read_all_rows.new.conn in
     told_failed _ _ old new c.in_err-rows.field-0.0 c.from_residual-in_err-rows.result c.from_residual-in_err-rows.ensures.0
-    (told_both _ _ old a new _ _ c.in_ok-has_version.ensures (told_both _ _ a b new _ _ c.in_ok-are_all_keyed.ensures c.in_err-rows.ensures))
+    (told_both _ _ old a new _ _ c.in_ok-settings.ensures (told_both _ _ a b new _ _ c.in_ok-are_all_keyed.ensures c.in_err-rows.ensures))
 
 pub returns : goal.returns
 returns g c =
     let old = state g.S.Store c.args.conn.now in
-    let a = state g.S.Store c.has_version.new.conn in
+    let a = state g.S.Store c.read_rows.new.conn in
     let b = state g.S.Store c.are_all_keyed.new.conn in
     let new = state g.S.Store c.read_all_rows.new.conn in
-    let version : c.in_ok-has_version.field-0 ≡ true = search rules in
+    let settings = c.in_ok-settings.settings in
+    let names : c.in_ok-names_version.field-0 ≡ true = search rules in
+    let has = subst (λ xs. Contains xs version_values) c.as_slice.ensures.value (c.in_ok-names_version.ensures.yes names) in
+    let one : length settings.items ≡ 1 = search rules in
     let keyed : c.in_ok-are_all_keyed.field-0 ≡ true = search rules in
     told_as _ _ old new c.in_ok-rows.rows _
-    (told_both _ _ old a new _ _ c.in_ok-has_version.ensures (told_both _ _ a b new _ _ c.in_ok-are_all_keyed.ensures c.in_ok-rows.ensures))
-    (λ schema all. (shown_are old.now schema (all.0.yes version) (all.1.0.yes keyed), all.1.1))
+    (told_both _ _ old a new settings _ c.in_ok-settings.ensures (told_both _ _ a b new _ _ c.in_ok-are_all_keyed.ensures c.in_ok-rows.ensures))
+    (λ schema all. (shown_are old.now schema (version_alone old.now settings.items all.0 has one) (all.1.0.yes keyed), all.1.1))
