@@ -18,4 +18,5 @@ pub mod KeyLemmas
 pub mod RiseLemmas
 pub mod ToldLemmas
 pub mod WholeLemmas
+pub mod LookLemmas
 pub mod Facts

@@ -4,6 +4,7 @@ pub mod Audit
 pub mod Steps
 pub mod Opening
 pub mod Reading
+pub mod Looking
 pub mod Whole
 pub mod code
 pub mod Asks

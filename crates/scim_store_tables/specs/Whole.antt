@@ -1,5 +1,5 @@
 -- The classification of a database, and all rows of its tables.
-use Rattle.std.specs.Prelude.{◌≡◌, ◌≢◌, ◌⊎◌, ℕ, Bool, false, true, ◌&&◌, ◌||◌, if◌then◌else◌, IsTrue, codes, List, [], ◌∷◌, map, Contains, IsPermutation}
+use Rattle.std.specs.Prelude.{◌≡◌, ◌≢◌, ◌⊎◌, ℕ, Bool, false, true, ◌||◌, IsTrue, codes, List, [], ◌∷◌, map, Contains, IsPermutation}
 use Rattle.std.specs.List.{list_any}
 use Rattle.sqlite.specs.Effect.{Database}
 use Rattle.sqlite.specs.Order.{Row}
@@ -8,6 +8,7 @@ use Rattle.sqlite.specs.State.{State, IsUnchanged}
 use Rattle.sqlite_schema.specs.Names.{same_name}
 use Rattle.scim_store_tables.specs.Tables.{no_schema, store_schema}
 use Rattle.scim_store_tables.specs.Lists.{Lists, Are, AreKeyed, version_values}
+use Rattle.scim_store_tables.specs.Looking.{NamesOne, NamesNotOne}
 use Rattle.scim_store_tables.specs.Reading.{DoNotFall, shown, shown_settings, owner_first, group_first}
 use Rattle.scim_store_tables.specs.declared.database_kinds.TableRows.{TableRows}
 use Rattle.scim_store_tables.specs.declared.database_kinds.DatabaseKind.{DatabaseKind}
@@ -19,18 +20,13 @@ use Rattle.scim_store_tables.specs.declared.database_kinds.DatabaseKind.TheVaria
 abbrev pub has_table : Schema → List ℕ → Bool
 has_table schema name = list_any (λ t. same_name t.name name) schema.tables
 
--- Whether a schema has tables with the names `resource`, `taken`, `member` and `audit`.
-abbrev pub has_others : Schema → Bool
-has_others schema = has_table schema (codes "resource") && has_table schema (codes "taken") && has_table schema (codes "member") && has_table schema (codes "audit")
+-- Whether a schema has a table with the name `setting`.
+abbrev pub has_setting : Schema → Bool
+has_setting schema = has_table schema (codes "setting")
 
 -- Whether a schema has a table with one of the names `resource`, `taken`, `member` and `audit`.
 abbrev pub has_another : Schema → Bool
 has_another schema = has_table schema (codes "resource") || has_table schema (codes "taken") || has_table schema (codes "member") || has_table schema (codes "audit")
-
--- Whether a schema that isn't the schema of version 1 counts as a schema of another version: it has tables
--- with all five names of our tables, or it has no `setting`, but at least one of the other four.
-abbrev pub is_of_other_version : Schema → Bool
-is_of_other_version schema = if has_table schema (codes "setting") then has_others schema else has_another schema
 
 -- ---- classification by rows
 
@@ -70,12 +66,24 @@ pub record IsUntouched (old new : State) : Type 0 where
   pub was_open : IsTrue new.is_open → IsTrue old.is_open
   pub unchanged : IsTrue old.is_open → IsUnchanged old new
 
--- The classification by table names of a database whose schema isn't the schema of version 1.
+-- The classification by table names of a database without a table `setting`.
 abbrev pub IsByNames : Schema → DatabaseKind → Type 0
 IsByNames schema Empty = schema ≡ no_schema
-IsByNames schema WrongVersion = (schema ≢ no_schema) × (is_of_other_version schema ≡ true)
-IsByNames schema Foreign = (schema ≢ no_schema) × (is_of_other_version schema ≡ false)
+IsByNames schema WrongVersion = (schema ≢ no_schema) × (has_another schema ≡ true)
+IsByNames schema Foreign = (schema ≢ no_schema) × (has_another schema ≡ false)
 IsByNames schema (Tables rows) = ⊥
+
+-- The classification of a database with a table `setting`, by the version that it names: `Foreign` if that is
+-- 1, since version 1 has another schema, and `WrongVersion` otherwise.
+abbrev pub IsBySetting : Database → DatabaseKind → Type 0
+IsBySetting db Empty = ⊥
+IsBySetting db WrongVersion = NamesNotOne db
+IsBySetting db Foreign = NamesOne db
+IsBySetting db (Tables rows) = ⊥
+
+-- The classification of a database whose schema isn't the schema of version 1.
+abbrev pub IsOther : Database → DatabaseKind → Type 0
+IsOther db reading = ((has_setting db.schema ≡ true) × IsBySetting db reading) ⊎ ((has_setting db.schema ≡ false) × IsByNames db.schema reading)
 
 -- The classification by rows of a database with the five tables: `WrongVersion` if `setting` doesn't have the
 -- row of version 1; `Foreign` if it has that row and others, or if a row has no key or a key occurs twice,
@@ -86,9 +94,9 @@ IsByRows db WrongVersion = ¬ NamesVersion db
 IsByRows db Foreign = NamesVersion db × (¬ (HasVersion db × AreAllKeyed db))
 IsByRows db (Tables rows) = Are db (shown db) × AreRowsOf (shown db) rows
 
--- The classification of a database: by rows if it has the schema of version 1, and by table names otherwise.
+-- The classification of a database: by rows if it has the schema of version 1.
 abbrev pub Is : Database → DatabaseKind → Type 0
-Is db reading = ((db.schema ≢ store_schema) × IsByNames db.schema reading) ⊎ ((db.schema ≡ store_schema) × IsByRows db reading)
+Is db reading = ((db.schema ≢ store_schema) × IsOther db reading) ⊎ ((db.schema ≡ store_schema) × IsByRows db reading)
 
 -- `reading` is the classification of the database, and nothing is changed.
 pub record IsReading (old new : State) (reading : DatabaseKind) : Type 0 where

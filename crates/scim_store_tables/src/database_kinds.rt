@@ -7,18 +7,19 @@ ghost use Rattle.sqlite.specs.State.{HasCleanDisk, Survives};
 ghost use Rattle.sqlite.specs.View.{doubt};
 ghost use Rattle.sqlite.specs.Held.{state};
 ghost use Rattle.scim_store_tables.specs.Lists.{version_values};
+ghost use Rattle.scim_store_tables.specs.Looking.{BeginsWithOne};
 ghost use Rattle.scim_store_tables.specs.Tables.{no_schema};
 ghost use Rattle.scim_store_tables.specs.Whole as spec;
 ghost use Rattle.scim_store_tables.specs.Reading.{Rests, shown};
-ghost use Rattle.scim_store_tables.specs.code.Told.{OnlyAsks, Decides, DecidesKeyed};
-ghost use Rattle.scim_store_tables.specs.Whole.{AreAllKeyed, AreRowsOf, IsByNames, IsByRows, IsReading};
+ghost use Rattle.scim_store_tables.specs.code.Told.{OnlyAsks, OnlyLooks, TellsOne, IsRefusal, Decides, DecidesKeyed};
+ghost use Rattle.scim_store_tables.specs.Whole.{AreAllKeyed, AreRowsOf, IsByNames, IsBySetting, IsByRows, IsReading};
 
 use crate::asking::{read_keys, read_rows};
 use crate::keys::do_keys_rise;
 use crate::queries::Table;
 use crate::schema::is_store_schema;
 use sqlite::types::ValueRef;
-use sqlite::{Alter, Connection, Error, Row};
+use sqlite::{Alter, Connection, Error, ErrorCode, Row};
 use sqlite_schema::names::same_name;
 use sqlite_schema::schema::Schema;
 
@@ -59,16 +60,6 @@ fn has_table(schema: &Schema, name: &str) -> bool
         .any(|table| same_name(table.name.as_slice(), name.as_bytes()))
 }
 
-/// Whether a schema has tables with the names `resource`, `taken`, `member` and `audit`.
-fn has_others(schema: &Schema) -> bool
-    ensures { result ≡ spec.has_others schema.now }
-{
-    has_table(schema, "resource")
-        && has_table(schema, "taken")
-        && has_table(schema, "member")
-        && has_table(schema, "audit")
-}
-
 /// Whether a schema has a table with one of the names `resource`, `taken`, `member` and `audit`.
 fn has_another(schema: &Schema) -> bool
     ensures { result ≡ spec.has_another schema.now }
@@ -79,19 +70,6 @@ fn has_another(schema: &Schema) -> bool
         || has_table(schema, "audit")
 }
 
-/// Whether a schema that isn't the schema of version 1 counts as a schema of another version: it has tables
-/// with all five names of our tables, or it has no `setting`, but at least one of the other four. A table
-/// whose SQL isn't supported isn't counted.
-fn is_of_other_version(schema: &Schema) -> bool
-    ensures { result ≡ spec.is_of_other_version schema.now }
-{
-    if has_table(schema, "setting") {
-        has_others(schema)
-    } else {
-        has_another(schema)
-    }
-}
-
 /// Whether a schema has no table, index or view.
 fn is_no_schema(schema: &Schema) -> bool
     ensures yes { IsTrue result → schema.now ≡ no_schema }
@@ -100,13 +78,13 @@ fn is_no_schema(schema: &Schema) -> bool
     schema.tables.is_empty() && schema.indexes.is_empty() && schema.views.is_empty()
 }
 
-/// Classifies a database by the names of its tables, if its schema isn't the schema of version 1.
-pub(crate) fn reading_by_names(schema: &Schema) -> DatabaseKind
+/// Classifies a database without a table `setting` by the names of its tables.
+fn reading_by_names(schema: &Schema) -> DatabaseKind
     ensures { IsByNames schema.now result }
 {
     if is_no_schema(schema) {
         DatabaseKind::Empty
-    } else if is_of_other_version(schema) {
+    } else if has_another(schema) {
         DatabaseKind::WrongVersion
     } else {
         DatabaseKind::Foreign
@@ -167,6 +145,66 @@ fn names_version(rows: &[Row]) -> Result<bool, Error>
         }
     }
     Ok(false)
+}
+
+/// Whether an error says that the database refused a statement, which then changed nothing: because the
+/// schema lacks what the statement names, or because of a type.
+fn is_refusal(error: &Error) -> bool
+    ensures { IsTrue result → IsRefusal error.now }
+{
+    match error {
+        Error::SqlInputError(_) => true,
+        Error::SqliteFailure(ErrorCode::TypeMismatch) => true,
+        _ => false,
+    }
+}
+
+/// Whether the first of these rows has the number 1 in its first column.
+fn begins_with_one(rows: &[Row]) -> bool
+    ensures yes { IsTrue result → BeginsWithOne rows.now }
+    ensures no { result ≡ false → ¬ BeginsWithOne rows.now }
+{
+    match rows {
+        [] => false,
+        [row, ..] => match row.get_ref(0) {
+            Ok(number) => is_number(number, 1),
+            Err(_) => false,
+        },
+    }
+}
+
+/// Whether a table `setting` names version 1. The schema may be any; if it has no such table, or the table
+/// lacks the columns, the result is false.
+///
+/// Fails with the database's error. Then the connection is closed, or its database is unchanged or as the
+/// last commit left it.
+fn names_one<S: Alter>(conn: &mut Connection<S>) -> Result<bool, Error>
+    ensures { OnlyLooks TellsOne (state S.Store conn.old) (state S.Store conn.new) result }
+{
+    match conn.query_all(
+        "SELECT number FROM setting WHERE name = 'version' LIMIT 1",
+        &[],
+    ) {
+        Ok(rows) => Ok(begins_with_one(rows.as_slice())),
+        Err(error) => {
+            if is_refusal(&error) {
+                Ok(false)
+            } else {
+                Err(error)
+            }
+        }
+    }
+}
+
+/// Classifies a database with a table `setting` by the version that it names.
+fn reading_by_setting<S: Alter>(conn: &mut Connection<S>) -> Result<DatabaseKind, Error>
+    ensures { OnlyLooks IsBySetting (state S.Store conn.old) (state S.Store conn.new) result }
+{
+    if names_one(conn)? {
+        Ok(DatabaseKind::Foreign)
+    } else {
+        Ok(DatabaseKind::WrongVersion)
+    }
 }
 
 /// Whether each row of a table has a key and no key occurs twice. The schema must have exactly the five
@@ -235,13 +273,16 @@ fn reading_by_rows<S: Alter>(conn: &mut Connection<S>) -> Result<DatabaseKind, E
 /// Reads the rows of a database that has the tables of version 1, and classifies any other database as
 /// `Empty`, `WrongVersion` or `Foreign`.
 ///
-/// A database without tables, indexes and views is `Empty`. Any other database whose schema isn't the schema
-/// of version 1 is `WrongVersion` if it has tables with all five names of our tables, or if it has no
-/// `setting`, but at least one of the other four; otherwise it is `Foreign`. Names are compared ignoring the
-/// case of ASCII letters. So a database of another program that has a table `setting`, but not all of the
-/// other four, is `Foreign`, whatever its rows are. A database with the schema of version 1 is `WrongVersion`
-/// if `setting` doesn't have the row of version 1, and `Foreign` if it has that row and others, or if a key
-/// occurs twice, which never happens in a valid file.
+/// A database without tables, indexes and views is `Empty`. A database with the schema of version 1 is
+/// `WrongVersion` if `setting` doesn't have the row of version 1, and `Foreign` if it has that row and others,
+/// or if a key occurs twice, which never happens in a valid file.
+///
+/// A database of another schema with a table `setting` is `Foreign` if the query of `number` for the name
+/// `version` returns 1 first: the file says version 1, but version 1 has another schema. It is `WrongVersion`
+/// if the query returns anything else or nothing, or is refused, because a column is missing or has another
+/// type. A database without a table `setting` is `WrongVersion` if it has a table with one of the other four
+/// names, and `Foreign` otherwise. Names are compared ignoring the case of ASCII letters, and a table whose
+/// SQL isn't supported isn't counted.
 ///
 /// Fails with the database's error, or if a key isn't a number. Then the connection is closed, or its
 /// database is unchanged or as the last commit left it. A crash leaves only a state that a crash before the
@@ -256,8 +297,11 @@ pub fn read_tables<S: Alter>(conn: &mut Connection<S>) -> Result<DatabaseKind, E
     ensures rests { HasCleanDisk (state S.Store conn.new)
         → OnErr result (Rests (state S.Store conn.old) (state S.Store conn.new)) }
 {
-    if !is_store_schema(conn.schema()) {
-        return Ok(reading_by_names(conn.schema()));
+    if is_store_schema(conn.schema()) {
+        return reading_by_rows(conn);
     }
-    reading_by_rows(conn)
+    if has_table(conn.schema(), "setting") {
+        return reading_by_setting(conn);
+    }
+    Ok(reading_by_names(conn.schema()))
 }

@@ -1,13 +1,17 @@
 -- The postcondition of a call that only reads.
-use Rattle.std.specs.Prelude.{◌≡◌, false, Bool, IsTrue, List, [], ◌∷◌, map, Result, IfOk, OnErr}
+use Rattle.std.specs.Prelude.{◌≡◌, ◌⊎◌, true, false, Bool, IsTrue, List, [], ◌∷◌, map, Result, IfOk, OnErr}
 use Rattle.sqlite.specs.declared.error.Error.{Error}
+use Rattle.sqlite.specs.declared.error.Error.TheVariants.{SqlInputError, SqliteFailure}
+use Rattle.sqlite.specs.declared.error.ErrorCode.TheVariants.{TypeMismatch}
 use Rattle.sqlite.specs.Effect.{Database}
 use Rattle.sqlite.specs.Order.{Row}
-use Rattle.sqlite.specs.State.{State, HasCleanDisk, IsUnchanged}
+use Rattle.sqlite.specs.State.{State, HasCleanDisk, IsUnchanged, Survives}
+use Rattle.sqlite_resolve.specs.declared.error.CompileError.{CompileError}
 use Rattle.scim_store_tables.specs.declared.queries.Table.{Table}
 use Rattle.scim_store_tables.specs.declared.queries.Table.TheVariants.{Setting, Resource, Taken, Member, Audit}
 use Rattle.scim_store_tables.specs.Lists.{AreKeyed}
 use Rattle.scim_store_tables.specs.Reading.{Rests, Spares, HasTables, shown, shown_settings, owner_first, group_first}
+use Rattle.scim_store_tables.specs.Looking.{NamesOne, NamesNotOne}
 use Rattle.scim_store_tables.specs.Whole.{AreInOrder}
 use Rattle.scim_store_tables.specs.code.Keys.{key_alone, AreRising}
 use Rattle.scim_store_tables.specs.Queries.{tree_of}
@@ -21,6 +25,25 @@ pub record OnlyAsks {T : Type 0} (IsTold : Database → T → Type 0) (old new :
   pub spares : Spares old new
   pub told : HasCleanDisk new → HasTables old → IfOk result (λ x. IsUnchanged old new × IsTold old.now x)
   pub rests : HasCleanDisk new → HasTables old → OnErr result (Rests old new)
+
+-- The postcondition of a query on a database of any schema. It begins no transaction, and a crash leaves only
+-- a state that a crash before the call could also leave. If the call succeeds, nothing is changed, and the
+-- returned value satisfies `IsTold` for the database. After an error the connection is closed, or its database
+-- is unchanged or as the last commit left it.
+pub record OnlyLooks {T : Type 0} (IsTold : Database → T → Type 0) (old new : State) (result : Result T Error) : Type 0 where
+  pub mode : old.in_transaction ≡ false → new.in_transaction ≡ false
+  pub survives : Survives old new (λ _. ⊥)
+  pub told : HasCleanDisk new → IfOk result (λ x. IsUnchanged old new × IsTold old.now x)
+  pub rests : HasCleanDisk new → OnErr result (Rests old new)
+
+-- Whether the query for the version begins with 1.
+abbrev pub TellsOne : Database → Bool → Type 0
+TellsOne db true = NamesOne db
+TellsOne db false = NamesNotOne db
+
+-- The database refused a statement.
+abbrev pub IsRefusal : Error → Type 0
+IsRefusal e = ((fault : CompileError) × (e ≡ SqlInputError fault)) ⊎ (e ≡ SqliteFailure TypeMismatch)
 
 -- The result of a test is true if and only if `P` holds.
 pub record Decides (P : Type 0) (found : Bool) : Type 0 where

@@ -6,19 +6,19 @@ use Rattle.scim_store_tables.proofs.StepLemmas.{if_then}
 use Rattle.scim_store_tables.proofs.WholeLemmas.{is_reading}
 use Rattle.scim_store_tables.proofs.database_kinds.read_tables.Goals as goal
 
-pub returns-clause-survives : goal.returns-clause-survives
-returns-clause-survives g c =
+pub returns-then-is_store_schema-clause-survives : goal.returns-then-is_store_schema-clause-survives
+returns-then-is_store_schema-clause-survives g c =
     let old = state g.S.Store c.args.conn.now in
     let has : old.now.schema ≡ store_schema = search rules in
     survives_weaker old (state g.S.Store c.reading_by_rows.new.conn) _ _ (λ _ db other. other has) c.reading_by_rows.ensures.spares
 
-pub returns-clause-read : goal.returns-clause-read
-returns-clause-read g c clean =
+pub returns-then-is_store_schema-clause-read : goal.returns-then-is_store_schema-clause-read
+returns-then-is_store_schema-clause-read g c clean =
     let old = state g.S.Store c.args.conn.now in
     let has : old.now.schema ≡ store_schema = search rules in
     if_then c.reading_by_rows.result _ _ (λ reading told. is_reading old (state g.S.Store c.reading_by_rows.new.conn) reading has told) (c.reading_by_rows.ensures.told clean (λ _. has))
 
-pub returns-clause-rests : goal.returns-clause-rests
-returns-clause-rests g c clean =
+pub returns-then-is_store_schema-clause-rests : goal.returns-then-is_store_schema-clause-rests
+returns-then-is_store_schema-clause-rests g c clean =
     let has : (state g.S.Store c.args.conn.now).now.schema ≡ store_schema = search rules in
     c.reading_by_rows.ensures.rests clean (λ _. has)
