@@ -6,6 +6,7 @@ pub mod Opening
 pub mod Reading
 pub mod Looking
 pub mod Whole
+pub mod Objects
 pub mod code
 pub mod Asks
 pub mod Queries

@@ -6,6 +6,7 @@ mod asking;
 mod audit;
 mod creating_tables;
 mod database_kinds;
+mod foreign_objects;
 mod keys;
 mod queries;
 mod schema;
@@ -15,6 +16,7 @@ pub use asking::{ask, find_owner, find_resource, first_text, read_audit_between,
 pub use audit::{AuditColumns, insert_audit};
 pub use creating_tables::{create_tables, make_tables};
 pub use database_kinds::{DatabaseKind, TableRows, is_empty_database, read_tables};
+pub use foreign_objects::{ForeignObject, foreign_object};
 pub use schema::is_store_schema;
 pub use writes::{
     delete_member, delete_name, delete_resource, insert_member, insert_name, insert_resource,
