@@ -83,7 +83,7 @@ fn told_of_fault(alloc: Global, fault: OpenFault) -> Result<String, CaseFault> {
             let id = id.text(alloc)?;
             joined(alloc, &["damaged ", id.as_str()])
         }
-        OpenFault::Store => said(alloc, "cannot be used"),
+        OpenFault::Store | OpenFault::Device => said(alloc, "cannot be used"),
         OpenFault::NoMemory => Err(CaseFault::NoMemory),
     }
 }

@@ -14,6 +14,7 @@ abbrev pub of_opening : OpenFault → RunFault
 of_opening opening.WrongVersion = Database WrongVersion
 of_opening (opening.Damaged id) = Database (Damaged id)
 of_opening opening.Store = Database Unusable
+of_opening opening.Device = Database Unusable
 of_opening opening.NoMemory = NoMemory
 
 -- the fault of a command for a failed import; `OtherBase` never occurs for a users file

@@ -13,7 +13,7 @@ pub(crate) fn open_fault(fault: OpenFault) -> RunFault
     match fault {
         OpenFault::WrongVersion => RunFault::Database(DatabaseFault::WrongVersion),
         OpenFault::Damaged(id) => RunFault::Database(DatabaseFault::Damaged(id)),
-        OpenFault::Store => RunFault::Database(DatabaseFault::Unusable),
+        OpenFault::Store | OpenFault::Device => RunFault::Database(DatabaseFault::Unusable),
         OpenFault::NoMemory => RunFault::NoMemory,
     }
 }

@@ -9,9 +9,9 @@ use Rattle.scim_shelf.specs.declared.changes.Change.{Change}
 use Rattle.scim_shelf.specs.Stores.{Store, CanKeep, IsOld, after}
 use Rattle.scim_store_tables.specs.Steps.{Leaves}
 use Rattle.scim_store_tables.specs.Tables.{no_schema}
-use Rattle.scim_store.specs.declared.examining.Examined.TheVariants.{WrongVersion as OtherVersion, Damaged as DamagedAt}
+use Rattle.scim_store.specs.declared.examining.Examined.TheVariants.{WrongVersion as OtherVersion, Damaged as DamagedAt, Foreign}
 use Rattle.scim_store.specs.declared.sql_shelf.OpenFault.{OpenFault}
-use Rattle.scim_store.specs.declared.sql_shelf.OpenFault.TheVariants.{WrongVersion, Damaged, Store as NoStore, NoMemory}
+use Rattle.scim_store.specs.declared.sql_shelf.OpenFault.TheVariants.{WrongVersion, Damaged, Store as NoStore, Device, NoMemory}
 use Rattle.scim_store.specs.Beginning.{no_store}
 use Rattle.scim_store.specs.Committing.{HasStore, AreOf, Changes}
 use Rattle.scim_store.specs.Opening.{IsFor}
@@ -49,12 +49,13 @@ pub record HasOpened (base : List ℕ) (db : Database) (s : State) (rows : ℕ) 
   pub kept : IsKeptIn base s rows store
   pub opens : Opens base db store
 
--- The meaning of the fault with which opening a database fails. `NoStore` and `NoMemory` say nothing about
--- the database.
+-- The meaning of the fault with which opening a database fails. `Device` and `NoMemory` say nothing about the
+-- database.
 abbrev pub Refuses : List ℕ → Database → OpenFault → Type 0
 Refuses base db WrongVersion = IsFor base db OtherVersion
 Refuses base db (Damaged id) = IsFor base db (DamagedAt id)
-Refuses base db NoStore = ⊤
+Refuses base db NoStore = IsFor base db Foreign
+Refuses base db Device = ⊤
 Refuses base db NoMemory = ⊤
 
 -- The tables that a crash may leave because of opening a database. If the database was empty, these are the

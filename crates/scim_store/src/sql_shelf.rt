@@ -59,8 +59,10 @@ pub enum OpenFault {
     /// one valid resource.
     Damaged(Id),
     /// It belongs to another program, or its tables don't hold a valid store although the rows of each id are
-    /// valid, or it can't be read or written.
+    /// valid.
     Store,
+    /// It can't be read or written, or the connection is in a transaction.
+    Device,
     /// Memory ran out.
     NoMemory,
 }
@@ -71,15 +73,16 @@ fn open_fault_of(error: &Error) -> OpenFault
 {
     match error {
         Error::SqliteFailure(ErrorCode::OutOfMemory) => OpenFault::NoMemory,
-        _ => OpenFault::Store,
+        _ => OpenFault::Device,
     }
 }
 
 impl<S: Alter> SqlShelf<S> {
     ghost use Rattle.scim_store.specs.SqlShelves.{connection_of, base_of, rows_of};
 
-    /// Returns a shelf over the tables of a connection, whose audit has `rows` rows. An error contains the
-    /// connection, unchanged.
+    /// Returns a shelf over the tables of a connection, whose audit has `rows` rows. Fails with `Device` if
+    /// there are more than `LAST_NUMBER` rows or the connection is in a transaction, and with `NoMemory` if
+    /// memory runs out. An error contains the connection, unchanged.
     fn over(
         alloc: Global,
         connection: Connection<S>,
@@ -100,7 +103,7 @@ impl<S: Alter> SqlShelf<S> {
         ensures given_back { IfErr result (λ e. e.1 ≡ connection) }
     {
         if rows > LAST_NUMBER || !connection.is_autocommit() {
-            return Err((OpenFault::Store, connection));
+            return Err((OpenFault::Device, connection));
         }
         match Text::copy_of(alloc, base) {
             Ok(base) => Ok(SqlShelf {
@@ -113,8 +116,9 @@ impl<S: Alter> SqlShelf<S> {
         }
     }
 
-    /// Creates the tables in an empty database, in one transaction, and returns a shelf over them. An error
-    /// contains the connection.
+    /// Creates the tables in an empty database, in one transaction, and returns a shelf over them. Fails with
+    /// `Device` if the device failed or the connection is in a transaction, and with `NoMemory` if memory
+    /// runs out. An error contains the connection.
     fn begin(
         alloc: Global,
         connection: Connection<S>,
@@ -150,8 +154,8 @@ impl<S: Alter> SqlShelf<S> {
     ///
     /// Fails with `WrongVersion` if the tables are of another version, with `Damaged` if an id has rows, but
     /// not exactly the rows of one valid resource, and with `Store` if the database belongs to another
-    /// program, if its tables don't hold a valid store for another reason, if the connection is in a
-    /// transaction, or if the device failed. Fails with `NoMemory` if memory runs out.
+    /// program, or if its tables don't hold a valid store for another reason. Fails with `Device` if the
+    /// device failed or the connection is in a transaction, and with `NoMemory` if memory runs out.
     ///
     /// An error also contains the connection: it is closed, or its database is unchanged or as the last
     /// commit left it, except that the tables may have been created in an empty database.

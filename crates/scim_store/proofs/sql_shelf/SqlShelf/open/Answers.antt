@@ -34,6 +34,9 @@ returns-in-Stands-clause-refused g c = IfErr-weaker c.over.result _ _ (λ e refu
 pub returns-in-Damaged-clause-refused : goal.returns-in-Damaged-clause-refused
 returns-in-Damaged-clause-refused g c = λ clean. subst (IsFor c.args.base.now (state g.S.Store c.args.connection).now) c.in-Damaged.is (c.in-Ok.ensures.examined clean).is
 
+pub returns-in-Foreign-clause-refused : goal.returns-in-Foreign-clause-refused
+returns-in-Foreign-clause-refused g c = λ clean. subst (IsFor c.args.base.now (state g.S.Store c.args.connection).now) c.in-Foreign.is (c.in-Ok.ensures.examined clean).is
+
 pub returns-in-Empty-clause-rests : goal.returns-in-Empty-clause-rests
 returns-in-Empty-clause-rests g c =
     IfErr-weaker c.begin.result _ _ (λ e was clean other. absurd (other (subst (IsFor c.args.base.now (state g.S.Store c.args.connection).now) c.in-Empty.is (c.in-Ok.ensures.examined (was clean)).is))) c.begin.ensures.clean
