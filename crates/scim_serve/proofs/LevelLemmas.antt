@@ -8,14 +8,15 @@ use Rattle.scim_hub.specs.declared.events.HubFault.{HubFault}
 use Rattle.scim_hub.specs.Events.{HubOutput}
 use Rattle.scim_serve.specs.declared.pending_bytes.Waiting.{Waiting}
 use Rattle.scim_serve.specs.Serving.{IsFront, due_for, due}
+use Rattle.scim_serve.specs.code.Rests.{Rest, no_rest}
 use Rattle.scim_serve.specs.code.Waiting.{waiting_for, Becomes}
-use Rattle.scim_serve.specs.code.Levels.{Fits, Keeps, Grows, IsLevel, IsOnlyTo}
+use Rattle.scim_serve.specs.code.Levels.{Fits, Keeps, Grows, IsLevel, IsOnlyFor}
 use Rattle.scim_serve.proofs.FitLemmas.{fits_gone, none_of_both}
 
 -- at the start nobody was written to
 pub level_first : (written : ℕ → List ℕ) (waiting : Waiting) → ((m : ℕ) → written m ≡ []) → ((m : ℕ) → waiting_for waiting m ≡ None) → IsLevel written waiting (λ m. due m [])
 level_first written waiting unwritten none = record {
-  fits = λ m. subst (λ (o : Option (List ℕ)). Fits o (written m) []) (sym (none m)) ([], ap (λ (t : List ℕ). t ++ []) (unwritten m));
+  fits = λ m. subst (λ (o : Option Rest). Fits o (written m) []) (sym (none m)) ([], ap (λ (t : List ℕ). t ++ []) (unwritten m));
   fresh = λ m above. refl;
 }
 
@@ -34,7 +35,7 @@ level_kept written written_then old new due keeps next level = record {
   fresh = λ m above. level.fresh m (omega (arith, next, above));
 }
 
-entered_if : (here : Bool) (o : Option (List ℕ)) (written all : List ℕ) → Fits o written all → (here ≡ true → all ≡ []) → Fits (if here then Some [] else o) written all
+entered_if : (here : Bool) (o : Option Rest) (written all : List ℕ) → Fits o written all → (here ≡ true → all ≡ []) → Fits (if here then Some no_rest else o) written all
 entered_if true o written all fits none =
     let front = fits_gone o written all fits in
     append-nil written ∙ (none_of_both written front.0 (front.1 ∙ none refl)).0 ∙ sym (none refl)
@@ -42,23 +43,23 @@ entered_if false o written all fits none = fits
 
 -- a connection whose number wasn't had may be written to
 pub level_entered : (written : ℕ → List ℕ) (old mid new : Waiting) (due : ℕ → List ℕ) (n : ℕ) → old.next ≤ n → ((m : ℕ) → waiting_for mid m ≡ waiting_for old m) → old.next ≤ mid.next
-    → Becomes n (Some []) mid new → IsLevel written old due → IsLevel written new due
+    → Becomes n (Some no_rest) mid new → IsLevel written old due → IsLevel written new due
 level_entered written old mid new due n fresh same higher becomes level = record {
-  fits = λ m. subst (λ (o : Option (List ℕ)). Fits o (written m) (due m)) (sym (becomes.waits m))
-      (entered_if (n == m) (waiting_for mid m) (written m) (due m) (subst (λ (o : Option (List ℕ)). Fits o (written m) (due m)) (sym (same m)) (level.fits m))
+  fits = λ m. subst (λ (o : Option Rest). Fits o (written m) (due m)) (sym (becomes.waits m))
+      (entered_if (n == m) (waiting_for mid m) (written m) (due m) (subst (λ (o : Option Rest). Fits o (written m) (due m)) (sym (same m)) (level.fits m))
       (λ e. let is = eqb-true n m e in level.fresh m (omega (arith, fresh, is))));
   fresh = λ m above. level.fresh m (omega (arith, higher, above, becomes.next));
 }
 
 -- an event of a connection whose number was had
 pub level_on : (written written_then : ℕ → List ℕ) (old new : Waiting) (due : ℕ → List ℕ) (n : ℕ) (result : Result (List HubOutput) HubFault)
-    → Grows (λ m. due_for m result) written old written_then new → new.next ≡ old.next → n < old.next → IsOnlyTo n result → IsLevel written old due
+    → Grows (λ m. due_for m result) written old written_then new → new.next ≡ old.next → n < old.next → IsOnlyFor n result → IsLevel written old due
     → IsLevel written_then new (λ m. due m ++ due_for m result)
 level_on written written_then old new due n result grows next noted only level = record {
   fits = λ m. grows m (due m) (level.fits m);
   fresh = λ m above.
       ap (λ (t : List ℕ). t ++ due_for m result) (level.fresh m (omega (arith, next, above)))
-      ∙ only m (λ (e : n ≡ m). absurd (omega (arith, next, above, noted, e)));
+      ∙ (only m (λ (e : n ≡ m). absurd (omega (arith, next, above, noted, e)))).0;
 }
 
 -- what is due after one more event

@@ -1,4 +1,4 @@
--- The text that must be written to each connection for the results of events.
+-- What must be done for each connection after the results of events.
 use Rattle.std.specs.Prelude.{◌≡◌, ℕ, ◌==◌, Bool, false, List, [], ◌++◌, Result, Ok, Err, if◌then◌else◌}
 use Rattle.std.specs.List.{flat_map, list_any}
 use Rattle.scim_hub.specs.declared.events.HubFault.{HubFault}
@@ -17,6 +17,20 @@ due_for m (Err fault) = []
 -- the text that must be written to connection m for the results of events, in order
 abbrev pub due : ℕ → List (Result (List HubOutput) HubFault) → List ℕ
 due m results = flat_map (due_for m) results
+
+-- whether an output shuts the connection with the number m
+abbrev pub shuts : ℕ → HubOutput → Bool
+shuts m (writing n text) = false
+shuts m (shutting n) = n == m
+
+-- whether the result of an event shuts connection m
+abbrev pub shut_for : ℕ → Result (List HubOutput) HubFault → Bool
+shut_for m (Ok hub_outputs) = list_any (shuts m) hub_outputs
+shut_for m (Err fault) = false
+
+-- whether one of the results of events shuts connection m
+abbrev pub is_shut : ℕ → List (Result (List HubOutput) HubFault) → Bool
+is_shut m results = list_any (shut_for m) results
 
 -- `front` is a prefix of `all`
 abbrev pub IsFront : List ℕ → List ℕ → Type 0

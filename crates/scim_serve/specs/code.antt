@@ -1,3 +1,6 @@
+pub mod Closings
 pub mod Levels
+pub mod Rests
+pub mod Served
 pub mod Waiting
 pub mod Wholes

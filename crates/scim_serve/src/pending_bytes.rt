@@ -1,5 +1,6 @@
 //! The pending bytes of connections.
-ghost use Rattle.std.specs.Prelude.{◌≡◌, ◌≤◌, ◌+◌, ℕ, Option, None, Some, OnOk, OnErr, IfSome, IsTrue, [], ◌++◌, length, drop, max, option_map};
+ghost use Rattle.std.specs.Prelude.{◌≡◌, ◌≤◌, ◌+◌, ◌↔◌, ℕ, Option, None, Some, OnOk, OnErr, IfSome, IsTrue, length, max, option_map};
+ghost use Rattle.scim_serve.specs.code.Rests.{no_rest, finished, with_more, without, to_close};
 ghost use Rattle.scim_serve.specs.code.Waiting.{waiting_for, Becomes, Stays};
 
 use scim_text::NoMemory;
@@ -7,7 +8,8 @@ use std::alloc::Global;
 use std::collections::BTreeMap;
 use std::marker::Model;
 
-/// The pending bytes of one connection. Contracts see them as a list.
+/// The pending bytes of one connection, and whether it is to be closed after them. Contracts see both as a
+/// `Rest`.
 #[derive(Drop)]
 struct Pending {
     /// The bytes that the connection has taken since the buffer was last empty, followed by the pending
@@ -20,11 +22,12 @@ struct Pending {
 }
 
 impl Model for Pending {
-    ghost use Rattle.std.specs.Prelude.{ℕ, ◌≤◌, List, length, drop};
+    ghost use Rattle.std.specs.Prelude.{◌≤◌, length, drop};
+    ghost use Rattle.scim_serve.specs.code.Rests.{Rest};
 
-    ghost Value = { List ℕ };
+    ghost Value = { Rest };
 
-    ghost view = { λ p. drop p.taken p.bytes.items };
+    ghost view = { λ p. record { bytes = drop p.taken p.bytes.items; closing = p.closing } };
 
     ghost invariant = { λ p. p.taken ≤ length p.bytes.items };
 }
@@ -32,7 +35,7 @@ impl Model for Pending {
 impl Pending {
     /// Returns an empty buffer.
     fn new(alloc: Global) -> Pending
-        ensures { result ≡ [] }
+        ensures { result ≡ no_rest }
     {
         Pending {
             bytes: Vec::new(alloc),
@@ -43,14 +46,14 @@ impl Pending {
 
     /// Returns the pending bytes.
     fn rest(&self) -> &[u8]
-        ensures { result.now ≡ self.now }
+        ensures { result.now ≡ self.now.bytes }
     {
         &self.bytes[self.taken..]
     }
 
     /// Appends bytes. After `NoMemory` the pending bytes are unchanged.
     fn add(&mut self, bytes: &[u8]) -> Result<(), NoMemory>
-        ensures ok { OnOk result (self.new ≡ self.old ++ bytes.now) }
+        ensures ok { OnOk result (self.new ≡ with_more bytes.now self.old) }
         ensures err { OnErr result (self.new ≡ self.old) }
     {
         self.bytes.extend_from_slice(bytes)?;
@@ -59,8 +62,8 @@ impl Pending {
 
     /// Drops the first `count` pending bytes. Frees the buffer when no bytes are pending.
     fn take(&mut self, count: usize)
-        requires { count ≤ length self.old }
-        ensures { self.new ≡ drop count self.old }
+        requires { count ≤ length self.old.bytes }
+        ensures { self.new ≡ without count self.old }
     {
         self.taken += count;
         if self.taken == self.bytes.len() {
@@ -71,16 +74,16 @@ impl Pending {
 
     /// Notes that the connection is to be closed after the pending bytes.
     fn close_after(&mut self)
-        ensures { self.new ≡ self.old }
+        ensures { self.new ≡ to_close self.old }
     {
         self.closing = true;
     }
 
     /// Whether no bytes are pending and the connection is to be closed.
     fn is_done(&self) -> bool
-        ensures { IsTrue result → self.now ≡ [] }
+        ensures { IsTrue result ↔ self.now ≡ finished }
     {
-        self.closing && self.taken == self.bytes.len()
+        self.closing && self.rest().is_empty()
     }
 }
 
@@ -121,7 +124,7 @@ impl Waiting {
     /// Adds a connection without pending bytes; from then on it can be written to. After `NoMemory` nothing
     /// has changed.
     pub(crate) fn enter(&mut self, alloc: Global, connection: u64) -> Result<(), NoMemory>
-        ensures ok { OnOk result (Becomes connection (Some []) self.old self.new) }
+        ensures ok { OnOk result (Becomes connection (Some no_rest) self.old self.new) }
         ensures err { OnErr result (Stays self.old self.new) }
     {
         self.by_number.insert(connection, Pending::new(alloc))?;
@@ -137,7 +140,8 @@ impl Waiting {
 
     /// Returns the pending bytes of a connection; `None` if it can't be written to.
     pub(crate) fn rest(&self, connection: u64) -> Option<&[u8]>
-        ensures { option_map (λ r. r.now) result ≡ waiting_for self.now connection }
+        ensures { option_map (λ r. r.now) result
+            ≡ option_map (λ rest. rest.bytes) (waiting_for self.now connection) }
     {
         match self.by_number.get(&connection) {
             Some(pending) => Some(pending.rest()),
@@ -150,7 +154,7 @@ impl Waiting {
     /// After `NoMemory` nothing has changed.
     pub(crate) fn add(&mut self, connection: u64, bytes: &[u8]) -> Result<(), NoMemory>
         ensures ok { OnOk result (Becomes connection
-            (option_map (λ rest. rest ++ bytes.now) (waiting_for self.old connection)) self.old
+            (option_map (with_more bytes.now) (waiting_for self.old connection)) self.old
             self.new) }
         ensures err { OnErr result (Stays self.old self.new) }
     {
@@ -162,8 +166,8 @@ impl Waiting {
 
     /// Drops the first `count` pending bytes of a connection.
     pub(crate) fn take(&mut self, connection: u64, count: usize)
-        requires { IfSome (waiting_for self.old connection) (λ rest. count ≤ length rest) }
-        ensures { Becomes connection (option_map (drop count) (waiting_for self.old connection))
+        requires { IfSome (waiting_for self.old connection) (λ rest. count ≤ length rest.bytes) }
+        ensures { Becomes connection (option_map (without count) (waiting_for self.old connection))
             self.old self.new }
     {
         match self.by_number.get_mut(&connection) {
@@ -174,7 +178,8 @@ impl Waiting {
 
     /// Notes that a connection is to be closed after its pending bytes.
     pub(crate) fn close_after(&mut self, connection: u64)
-        ensures { Stays self.old self.new }
+        ensures { Becomes connection (option_map to_close (waiting_for self.old connection))
+            self.old self.new }
     {
         match self.by_number.get_mut(&connection) {
             Some(pending) => pending.close_after(),
@@ -184,7 +189,7 @@ impl Waiting {
 
     /// Whether a connection has no pending bytes and is to be closed.
     pub(crate) fn is_done(&self, connection: u64) -> bool
-        ensures { IsTrue result → waiting_for self.now connection ≡ Some [] }
+        ensures { IsTrue result ↔ waiting_for self.now connection ≡ Some finished }
     {
         match self.by_number.get(&connection) {
             Some(pending) => pending.is_done(),

@@ -1,15 +1,18 @@
 //! The main loop of a server.
-ghost use Rattle.std.specs.Prelude.{◌≡◌, ◌<◌, ◌==◌, if◌then◌else◌, ◌++◌, ◌∷◌, ℕ, List, [], IsTrue, OnOk, Result, Option, None, IsSome, false, true, map};
-ghost use Rattle.std.specs.List.{flat_map};
+ghost use Rattle.std.specs.Prelude.{◌≡◌, ◌≢◌, ◌<◌, ◌||◌, Bool, Some, ◌==◌, if◌then◌else◌, ◌++◌, ◌∷◌, ℕ, List, [], IsTrue, OnOk, Result, Option, None, IsSome, false, true, map};
+ghost use Rattle.std.specs.List.{flat_map, list_any};
 ghost use Rattle.scim_token.specs.TokenFile.{Entry};
 ghost use Rattle.scim_token.specs.Tokens.{Knows};
 ghost use Rattle.scim_hub.specs.declared.events.HubFault.{HubFault};
 ghost use Rattle.scim_hub.specs.Events.{HubEvent, absent, HubOutput, HubState, Hears, Runs, joining};
 ghost use Rattle.scim_hub.specs.HubStates.{IsHubState, output_of, done, owned_event_of};
-ghost use Rattle.scim_serve.specs.Serving.{IsFront, text_to, due_for, due, leaves, has_left};
+ghost use Rattle.scim_serve.specs.Serving.{IsFront, text_to, due_for, due, shuts, shut_for, is_shut, leaves, has_left};
+ghost use Rattle.scim_serve.specs.code.Closings.{IsMarked, Marks, IsClosing};
 ghost use Rattle.scim_serve.specs.code.Levels.{Fits, IsLevel, Keeps, Grows};
+ghost use Rattle.scim_serve.specs.code.Rests.{finished};
+ghost use Rattle.scim_serve.specs.code.Served.{IsServed};
 ghost use Rattle.scim_serve.specs.code.Waiting.{waiting_for};
-ghost use Rattle.scim_serve.specs.code.Wholes.{AllTaken, StaysOpen, IsWhole};
+ghost use Rattle.scim_serve.specs.code.Wholes.{AllTaken, StaysOpen};
 ghost use Rattle.scim_hub.specs.HubSetting.{hub_base, hub_policy, hub_shelf, hub_tokens, KeepsHubSetting};
 
 use crate::peers::{PeerEvent, Peers, PeersFault};
@@ -33,6 +36,10 @@ fn close<P: Peers>(peers: &mut P, waiting: &mut Waiting, connection: u64)
         → StaysOpen (waiting_for waiting.old m) (P.is_closed peers.old m)
         (waiting_for waiting.new m) (P.is_closed peers.new m) }
     ensures closed { IsTrue P.is_known → P.is_closed peers.new connection ≡ true }
+    ensures marks { (m : ℕ) (shut : Bool) → IsMarked (waiting_for waiting.old m) shut
+        → IsMarked (waiting_for waiting.new m) shut }
+    ensures unfinished { (m : ℕ) → waiting_for waiting.old m ≢ Some finished
+        → waiting_for waiting.new m ≢ Some finished }
     ensures next { waiting.new.next ≡ waiting.old.next }
 {
     waiting.leave(connection);
@@ -52,6 +59,11 @@ fn offer<P: Peers>(peers: &mut P, waiting: &mut Waiting, connection: u64)
         (waiting_for waiting.new m) (P.is_closed peers.new m) }
     ensures closed { IsTrue P.is_known → (m : ℕ)
         → P.is_closed peers.new m ≡ P.is_closed peers.old m }
+    ensures marks { (m : ℕ) (shut : Bool) → IsMarked (waiting_for waiting.old m) shut
+        → IsMarked (waiting_for waiting.new m) shut }
+    ensures unfinished { (m : ℕ) → (connection ≡ m → ⊥)
+        → waiting_for waiting.old m ≢ Some finished
+        → waiting_for waiting.new m ≢ Some finished }
     ensures next { waiting.new.next ≡ waiting.old.next }
 {
     let Some(rest) = waiting.rest(connection) else {
@@ -79,6 +91,11 @@ fn flush<P: Peers>(peers: &mut P, waiting: &mut Waiting, connection: u64)
         → Fits (waiting_for waiting.old connection) (P.written peers.old connection) due
         → P.is_closed peers.old connection ≡ false → P.is_closed peers.new connection ≡ true
         → P.written peers.new connection ≡ due }
+    ensures marks { (m : ℕ) (shut : Bool) → IsMarked (waiting_for waiting.old m) shut
+        → IsMarked (waiting_for waiting.new m) shut }
+    ensures unfinished { (m : ℕ)
+        → ((connection ≡ m → ⊥) → waiting_for waiting.old m ≢ Some finished)
+        → waiting_for waiting.new m ≢ Some finished }
     ensures next { waiting.new.next ≡ waiting.old.next }
 {
     offer(peers, waiting, connection);
@@ -101,6 +118,12 @@ fn queue_one<P: Peers>(peers: &mut P, waiting: &mut Waiting, output: &Output)
     ensures stays { IsTrue P.is_known → (m : ℕ)
         → StaysOpen (waiting_for waiting.old m) (P.is_closed peers.old m)
         (waiting_for waiting.new m) (P.is_closed peers.new m) }
+    ensures marks { Marks (λ m. shuts m (output_of output.now)) waiting.old waiting.new }
+    ensures unfinished { (m : ℕ) → shuts m (output_of output.now) ≡ false
+        → waiting_for waiting.old m ≢ Some finished
+        → waiting_for waiting.new m ≢ Some finished }
+    ensures pending { IsTrue P.is_known → (m : ℕ) → shuts m (output_of output.now) ≡ true
+        → P.is_closed peers.new m ≡ P.is_closed peers.old m }
     ensures next { waiting.new.next ≡ waiting.old.next }
 {
     match output {
@@ -126,6 +149,11 @@ fn queue<P: Peers>(peers: &mut P, waiting: &mut Waiting, outputs: &[Output])
     ensures stays { IsTrue P.is_known → (m : ℕ)
         → StaysOpen (waiting_for waiting.old m) (P.is_closed peers.old m)
         (waiting_for waiting.new m) (P.is_closed peers.new m) }
+    ensures marks { Marks (λ m. list_any (shuts m) (map output_of outputs.now)) waiting.old
+        waiting.new }
+    ensures unfinished { (m : ℕ) → list_any (shuts m) (map output_of outputs.now) ≡ false
+        → waiting_for waiting.old m ≢ Some finished
+        → waiting_for waiting.new m ≢ Some finished }
     ensures next { waiting.new.next ≡ waiting.old.next }
 {
     for output in outputs {
@@ -138,6 +166,7 @@ fn queue<P: Peers>(peers: &mut P, waiting: &mut Waiting, outputs: &[Output])
 /// Closes the connection if its number isn't greater than all earlier numbers, or if memory runs out.
 fn welcome<P: Peers>(alloc: Global, peers: &mut P, waiting: &mut Waiting, connection: u64)
     ensures seen { IsTrue P.is_known → P.seen peers.new ≡ P.seen peers.old }
+    ensures written { IsTrue P.is_known → (m : ℕ) → P.written peers.new m ≡ P.written peers.old m }
     ensures level { IsTrue P.is_known → (due : ℕ → List ℕ)
         → IsLevel (P.written peers.old) waiting.old due
         → IsLevel (P.written peers.new) waiting.new due }
@@ -147,6 +176,7 @@ fn welcome<P: Peers>(alloc: Global, peers: &mut P, waiting: &mut Waiting, connec
     ensures stays { IsTrue P.is_known → (m : ℕ)
         → StaysOpen (waiting_for waiting.old m) (P.is_closed peers.old m)
         (waiting_for waiting.new m) (P.is_closed peers.new m) }
+    ensures closing { (shut : ℕ → Bool) → IsClosing waiting.old shut → IsClosing waiting.new shut }
     ensures entered { IsTrue P.is_known → P.is_closed peers.new connection ≡ false
         → IsSome (waiting_for waiting.new connection) }
     ensures noted { connection < waiting.new.next }
@@ -160,6 +190,7 @@ fn welcome<P: Peers>(alloc: Global, peers: &mut P, waiting: &mut Waiting, connec
 /// that joins, and drops the pending bytes of a connection that leaves.
 fn prepare<P: Peers>(alloc: Global, peers: &mut P, waiting: &mut Waiting, event: &OwnedEvent)
     ensures seen { IsTrue P.is_known → P.seen peers.new ≡ P.seen peers.old }
+    ensures written { IsTrue P.is_known → (m : ℕ) → P.written peers.new m ≡ P.written peers.old m }
     ensures level { IsTrue P.is_known → (due : ℕ → List ℕ)
         → IsLevel (P.written peers.old) waiting.old due
         → IsLevel (P.written peers.new) waiting.new due }
@@ -169,6 +200,11 @@ fn prepare<P: Peers>(alloc: Global, peers: &mut P, waiting: &mut Waiting, event:
     ensures stays { IsTrue P.is_known → (m : ℕ) → leaves m (owned_event_of event.now) ≡ false
         → StaysOpen (waiting_for waiting.old m) (P.is_closed peers.old m)
         (waiting_for waiting.new m) (P.is_closed peers.new m) }
+    ensures closing { (shut : ℕ → Bool) → IsClosing waiting.old shut → IsClosing waiting.new shut }
+    ensures gone { (m : ℕ) → leaves m (owned_event_of event.now) ≡ true
+        → waiting_for waiting.new m ≡ None }
+    ensures unclosed { IsTrue P.is_known → (m : ℕ) → leaves m (owned_event_of event.now) ≡ true
+        → P.is_closed peers.new m ≡ P.is_closed peers.old m }
     ensures entered { IsTrue P.is_known → (owned_event_of event.now).kind ≡ joining
         → P.is_closed peers.new event.now.connection ≡ false
         → IsSome (waiting_for waiting.new event.now.connection) }
@@ -207,6 +243,11 @@ fn settle<P: Peers>(
     ensures stays { IsTrue P.is_known → (m : ℕ)
         → StaysOpen (waiting_for waiting.old m) (P.is_closed peers.old m)
         (waiting_for waiting.new m) (P.is_closed peers.new m) }
+    ensures marks { Marks (λ m. shut_for m (done answer.now)) waiting.old waiting.new }
+    ensures unfinished { (m : ℕ)
+        → ((connection ≡ m → ⊥) → shut_for m (done answer.now) ≡ false)
+        → waiting_for waiting.old m ≢ Some finished
+        → waiting_for waiting.new m ≢ Some finished }
     ensures next { waiting.new.next ≡ waiting.old.next }
 {
     match answer {
@@ -236,12 +277,12 @@ fn hear<P: Peers, S: Shelf>(
         × IsHubState S.stands hub.new next
         × Hears (hub_policy hub.old) (hub_base hub.old) entries
         (owned_event_of event.now) state result next
-        × ((due : ℕ → List ℕ) → IsLevel (P.written peers.old) waiting.old due
-        → IsLevel (P.written peers.new) waiting.new (λ m. due m ++ due_for m result))
-        × ((first : HubState) (seen : List HubEvent) (due : ℕ → List ℕ)
-        → IsWhole first state seen (P.takes_all peers.old) (P.is_closed peers.old) waiting.old due
-        → IsWhole first next (seen ++ owned_event_of event.now ∷ []) (P.takes_all peers.new)
-        (P.is_closed peers.new) waiting.new (λ m. due m ++ due_for m result)) }
+        × ((first : HubState) (seen : List HubEvent) (due : ℕ → List ℕ) (shut : ℕ → Bool)
+        → IsServed first state seen (P.written peers.old) (P.takes_all peers.old)
+        (P.is_closed peers.old) waiting.old due shut
+        → IsServed first next (seen ++ owned_event_of event.now ∷ []) (P.written peers.new)
+        (P.takes_all peers.new) (P.is_closed peers.new) waiting.new
+        (λ m. due m ++ due_for m result) (λ m. shut m || shut_for m result)) }
     ensures honest { S.is_honest (hub_shelf hub.new) → S.is_honest (hub_shelf hub.old) }
 {
     prepare(alloc, peers, waiting, event);
@@ -274,7 +315,9 @@ pub fn serve<P: Peers, S: Shelf>(
         × ((m : ℕ) → IsFront (P.written peers.new m) (due m results))
         × ((m : ℕ) → state.connections m ≡ absent → has_left m (P.seen peers.new) ≡ false
         → P.is_closed peers.new m ≡ false → P.takes_all peers.new m ≡ true
-        → P.written peers.new m ≡ due m results) }
+        → P.written peers.new m ≡ due m results)
+        × ((m : ℕ) → state.connections m ≡ absent → is_shut m results ≡ true
+        → P.written peers.new m ≡ due m results → P.is_closed peers.new m ≡ true) }
     ensures over { IsTrue P.is_known → OnOk result (P.is_over peers.new ≡ true) }
     ensures honest { S.is_honest (hub_shelf hub.new) → S.is_honest (hub_shelf hub.old) }
 {

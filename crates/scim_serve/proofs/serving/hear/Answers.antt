@@ -2,6 +2,7 @@ use Rattle.std.proofs.Common.{subst}
 use Rattle.scim_hub.specs.Events.{HubEvent, Hears}
 use Rattle.scim_hub.specs.HubStates.{done, owned_event_of}
 use Rattle.scim_serve.proofs.EventLemmas.{hears_only}
+use Rattle.scim_serve.proofs.ClosingLemmas.{closing_on}
 use Rattle.scim_serve.proofs.LevelLemmas.{level_on}
 use Rattle.scim_serve.proofs.WholeLemmas.{whole_on}
 use Rattle.scim_serve.proofs.serving.hear.Goals as goal
@@ -15,16 +16,22 @@ returns-clause-heard g c = λ known entries state knows is honest.
     let takes = g.P.Peers.takes_all in
     let closed = g.P.Peers.is_closed in
     let step = c.event-answer.ensures.heard entries state knows is honest in
-    let hears = subst (λ (s : HubEvent). Hears policy base entries s state result step.0) c.event.ensures step.2 in (
+    let hears = subst (λ (s : HubEvent). Hears policy base entries s state result step.0) c.event.ensures step.2 in
+    let only = hears_only policy base entries _ state result step.0 hears in (
       result,
       step.0,
       step.1,
       hears,
-      λ due level. level_on (written c.prepare.new.peers) (written c.settle.new.peers) c.prepare.new.waiting c.settle.new.waiting due c.args.event.now.connection result
-          (c.settle.ensures.settled known) c.settle.ensures.next c.prepare.ensures.noted (hears_only policy base entries _ state result step.0 hears)
-          (c.prepare.ensures.level known due level),
-      λ first seen due whole. whole_on policy base entries first state step.0 seen (owned_event_of c.args.event.now) result
-          (takes c.args.peers.now) (takes c.prepare.new.peers) (takes c.settle.new.peers) (closed c.args.peers.now) (closed c.prepare.new.peers) (closed c.settle.new.peers)
-          c.args.waiting.now c.prepare.new.waiting c.settle.new.waiting due
-          (c.prepare.ensures.taken known) (c.prepare.ensures.stays known) (c.prepare.ensures.entered known) (c.settle.ensures.taken known) (c.settle.ensures.stays known) hears whole,
+      λ first seen due shut served. record {
+        level = level_on (written c.prepare.new.peers) (written c.settle.new.peers) c.prepare.new.waiting c.settle.new.waiting due c.args.event.now.connection result
+            (c.settle.ensures.settled known) c.settle.ensures.next c.prepare.ensures.noted only (c.prepare.ensures.level known due served.level);
+        closing = closing_on c.prepare.new.waiting c.settle.new.waiting shut c.args.event.now.connection result
+            c.settle.ensures.marks c.settle.ensures.unfinished c.settle.ensures.next c.prepare.ensures.noted only (c.prepare.ensures.closing shut served.closing);
+        whole = whole_on policy base entries first state step.0 seen (owned_event_of c.args.event.now) result
+            (written c.args.peers.now) (written c.prepare.new.peers) (written c.settle.new.peers) (takes c.args.peers.now) (takes c.prepare.new.peers) (takes c.settle.new.peers)
+            (closed c.args.peers.now) (closed c.prepare.new.peers) (closed c.settle.new.peers) c.args.waiting.now c.prepare.new.waiting c.settle.new.waiting due shut
+            (c.prepare.ensures.taken known) (c.prepare.ensures.stays known) (λ m left. (c.prepare.ensures.gone m left, c.prepare.ensures.unclosed known m left))
+            (c.prepare.ensures.entered known) (c.prepare.ensures.written known) (c.settle.ensures.taken known) (c.settle.ensures.stays known) (c.settle.ensures.settled known) hears
+            served.level served.closing served.whole;
+      },
     )

@@ -10,10 +10,9 @@ use Rattle.scim_serve.specs.declared.peers.PeerEvent.{PeerEvent}
 use Rattle.scim_serve.specs.Peers.{told_by}
 use Rattle.scim_hub.proofs.Facts.{runs_more}
 use Rattle.scim_serve.proofs.EventLemmas.{nothing_told}
-use Rattle.scim_serve.proofs.LevelLemmas.{level_first, level_same, level_kept, level_more, level_fronts}
-use Rattle.scim_serve.specs.Serving.{due}
-use Rattle.scim_serve.specs.code.Wholes.{IsWhole}
-use Rattle.scim_serve.proofs.WholeLemmas.{whole_first, whole_same, whole_kept, whole_more, whole_written}
+use Rattle.scim_serve.specs.Serving.{due, is_shut}
+use Rattle.scim_serve.specs.code.Served.{IsServed}
+use Rattle.scim_serve.proofs.ServedLemmas.{served_first, served_same, served_kept, served_more, served_each}
 use Rattle.scim_serve.proofs.serving.serve.Goals as goal
 use Rattle.scim_serve.proofs.serving.serve.Goals.{in-Event, in-Ready}
 
@@ -27,9 +26,8 @@ loop-init g c = record {
     state,
     is,
     subst (λ (s : List HubEvent). Runs c.args.hub.now.service.policy c.args.hub.now.service.base entries state s [] state) (sym unseen) (refl, refl),
-    level_first (g.P.Peers.written c.args.peers.now) c.new-waiting.result unwritten c.new-waiting.ensures.none,
-    subst (λ (s : List HubEvent). IsWhole state state s (g.P.Peers.takes_all c.args.peers.now) (g.P.Peers.is_closed c.args.peers.now) c.new-waiting.result (λ m. due m [])) (sym unseen)
-        (whole_first state (g.P.Peers.takes_all c.args.peers.now) (g.P.Peers.is_closed c.args.peers.now) c.new-waiting.result c.new-waiting.ensures.none),
+    served_first state (g.P.Peers.seen c.args.peers.now) (g.P.Peers.written c.args.peers.now) (g.P.Peers.takes_all c.args.peers.now) (g.P.Peers.is_closed c.args.peers.now) c.new-waiting.result
+        unseen unwritten c.new-waiting.ensures.none,
   );
   honest = λ h. h;
 }
@@ -59,30 +57,29 @@ loop-preserved g c = record {
             (subst (λ (b : List ℕ). Hears c.loop.hub.service.policy b entries event s.1 step.0 step.1) inv.base step.3) in
             let seen : g.P.Peers.seen w.hear.new.peers ≡ before ++ event ∷ [] =
             w.hear.ensures.seen known ∙ told ∙ ap (λ (i : PeerEvent). before ++ told_by (Ok (Some i))) w.in-Event.is in
-            let level = level_more (written w.hear.new.peers) w.hear.new.waiting s.0 step.0
-            (step.4 (λ m. due m s.0) (level_same (written c.loop.peers) (written c.next.new.self) c.loop.waiting (λ m. due m s.0) (c.in_ok-peer_event.ensures.written known) s.4)) in
-            let whole = subst (λ (e : List HubEvent). IsWhole state step.1 e (takes w.hear.new.peers) (closed w.hear.new.peers) w.hear.new.waiting (λ m. due m (s.0 ++ step.0 ∷ []))) (sym seen)
-            (whole_more state step.1 (before ++ event ∷ []) (takes w.hear.new.peers) (closed w.hear.new.peers) w.hear.new.waiting s.0 step.0
-            (step.5 state before (λ m. due m s.0)
-            (whole_same state s.1 before (takes c.loop.peers) (takes c.next.new.self) (closed c.loop.peers) (closed c.next.new.self) c.loop.waiting (λ m. due m s.0)
-            (c.in_ok-peer_event.ensures.takes known) (c.in_ok-peer_event.ensures.closed known) s.5))) in
+            let served = subst (λ (e : List HubEvent). IsServed state step.1 e (written w.hear.new.peers) (takes w.hear.new.peers) (closed w.hear.new.peers) w.hear.new.waiting
+            (λ m. due m (s.0 ++ step.0 ∷ [])) (λ m. is_shut m (s.0 ++ step.0 ∷ []))) (sym seen)
+            (served_more state step.1 (before ++ event ∷ []) (written w.hear.new.peers) (takes w.hear.new.peers) (closed w.hear.new.peers) w.hear.new.waiting s.0 step.0
+            (step.4 state before (λ m. due m s.0) (λ m. is_shut m s.0)
+            (served_same state s.1 before (written c.loop.peers) (written c.next.new.self) (takes c.loop.peers) (takes c.next.new.self) (closed c.loop.peers) (closed c.next.new.self)
+            c.loop.waiting (λ m. due m s.0) (λ m. is_shut m s.0) (c.in_ok-peer_event.ensures.written known) (c.in_ok-peer_event.ensures.takes known) (c.in_ok-peer_event.ensures.closed known) s.4))) in
             let runs = runs_more policy base entries event step.0 step.1 state s.1 before s.0 s.3 hears in
             rw (w.peers-is, w.hub-is, w.waiting-is)
-            (s.0 ++ step.0 ∷ [], step.1, step.2, subst (λ (e : List HubEvent). Runs policy base entries state e (s.0 ++ step.0 ∷ []) step.1) (sym seen) runs, level, whole)
+            (s.0 ++ step.0 ∷ [], step.1, step.2, subst (λ (e : List HubEvent). Runs policy base entries state e (s.0 ++ step.0 ∷ []) step.1) (sym seen) runs, served)
         | in-Ready w ↦
             let is_honest : g.S.Shelf.is_honest c.loop.hub.service.shelf = subst (λ (h : Hub g.row.S.Denot). g.S.Shelf.is_honest h.service.shelf) w.hub-is honest in
             let s = inv.served known entries state unseen unwritten knows is is_honest in
             let seen : g.P.Peers.seen w.flush.new.peers ≡ before =
             w.flush.ensures.seen known ∙ nothing_told before (told_by (Ok (Some c.in-Some.peer_event))) (g.P.Peers.seen c.next.new.self) told (ap (λ (i : PeerEvent). told_by (Ok (Some i))) w.in-Ready.is) in
-            let level = level_kept (written c.next.new.self) (written w.flush.new.peers) c.loop.waiting w.flush.new.waiting (λ m. due m s.0) (w.flush.ensures.kept known) w.flush.ensures.next
-            (level_same (written c.loop.peers) (written c.next.new.self) c.loop.waiting (λ m. due m s.0) (c.in_ok-peer_event.ensures.written known) s.4) in
-            let whole = subst (λ (e : List HubEvent). IsWhole state s.1 e (takes w.flush.new.peers) (closed w.flush.new.peers) w.flush.new.waiting (λ m. due m s.0)) (sym seen)
-            (whole_kept state s.1 before (takes c.next.new.self) (takes w.flush.new.peers) (closed c.next.new.self) (closed w.flush.new.peers) c.loop.waiting w.flush.new.waiting (λ m. due m s.0)
-            (λ m taken. w.flush.ensures.taken known m (λ apart. taken)) (w.flush.ensures.stays known)
-            (whole_same state s.1 before (takes c.loop.peers) (takes c.next.new.self) (closed c.loop.peers) (closed c.next.new.self) c.loop.waiting (λ m. due m s.0)
-            (c.in_ok-peer_event.ensures.takes known) (c.in_ok-peer_event.ensures.closed known) s.5)) in
+            let served = subst (λ (e : List HubEvent). IsServed state s.1 e (written w.flush.new.peers) (takes w.flush.new.peers) (closed w.flush.new.peers) w.flush.new.waiting
+            (λ m. due m s.0) (λ m. is_shut m s.0)) (sym seen)
+            (served_kept state s.1 before (written c.next.new.self) (written w.flush.new.peers) (takes c.next.new.self) (takes w.flush.new.peers) (closed c.next.new.self) (closed w.flush.new.peers)
+            c.loop.waiting w.flush.new.waiting (λ m. due m s.0) (λ m. is_shut m s.0) (w.flush.ensures.kept known) (λ m taken. w.flush.ensures.taken known m (λ apart. taken))
+            (w.flush.ensures.stays known) w.flush.ensures.marks (λ m before. w.flush.ensures.unfinished m (λ apart. before)) w.flush.ensures.next
+            (served_same state s.1 before (written c.loop.peers) (written c.next.new.self) (takes c.loop.peers) (takes c.next.new.self) (closed c.loop.peers) (closed c.next.new.self)
+            c.loop.waiting (λ m. due m s.0) (λ m. is_shut m s.0) (c.in_ok-peer_event.ensures.written known) (c.in_ok-peer_event.ensures.takes known) (c.in_ok-peer_event.ensures.closed known) s.4)) in
             rw (w.peers-is, w.hub-is, w.waiting-is)
-            (s.0, s.1, s.2, subst (λ (e : List HubEvent). Runs policy base entries state e s.0 s.1) (sym seen) s.3, level, whole)
+            (s.0, s.1, s.2, subst (λ (e : List HubEvent). Runs policy base entries state e s.0 s.1) (sym seen) s.3, served)
       ];
   honest = search rules;
 }
@@ -90,19 +87,21 @@ loop-preserved g c = record {
 pub returns-in_err-peer_event-clause-fronts : goal.returns-in_err-peer_event-clause-fronts
 returns-in_err-peer_event-clause-fronts g c = λ known entries state unseen unwritten knows is honest.
     let s = c.loop.invariant.served known entries state unseen unwritten knows is honest in
-    let same : g.P.Peers.seen c.next.new.self ≡ g.P.Peers.seen c.loop.peers = nothing_told (g.P.Peers.seen c.loop.peers) [] (g.P.Peers.seen c.next.new.self) (c.in_err-peer_event.ensures.seen known) refl in (
+    let same : g.P.Peers.seen c.next.new.self ≡ g.P.Peers.seen c.loop.peers = nothing_told (g.P.Peers.seen c.loop.peers) [] (g.P.Peers.seen c.next.new.self) (c.in_err-peer_event.ensures.seen known) refl in
+    let served = subst (λ (e : List HubEvent). IsServed state s.1 e (g.P.Peers.written c.next.new.self) (g.P.Peers.takes_all c.next.new.self) (g.P.Peers.is_closed c.next.new.self) c.loop.waiting
+    (λ m. due m s.0) (λ m. is_shut m s.0)) (sym same)
+    (served_same state s.1 (g.P.Peers.seen c.loop.peers) (g.P.Peers.written c.loop.peers) (g.P.Peers.written c.next.new.self) (g.P.Peers.takes_all c.loop.peers) (g.P.Peers.takes_all c.next.new.self)
+    (g.P.Peers.is_closed c.loop.peers) (g.P.Peers.is_closed c.next.new.self) c.loop.waiting (λ m. due m s.0) (λ m. is_shut m s.0) (c.in_err-peer_event.ensures.written known)
+    (c.in_err-peer_event.ensures.takes known) (c.in_err-peer_event.ensures.closed known) s.4) in
+    let each = served_each state s.1 (g.P.Peers.seen c.next.new.self) (g.P.Peers.written c.next.new.self) (g.P.Peers.takes_all c.next.new.self) (g.P.Peers.is_closed c.next.new.self) c.loop.waiting
+    (λ m. due m s.0) (λ m. is_shut m s.0) served in (
       s.0,
       s.1,
       s.2,
       subst (λ (e : List HubEvent). Runs c.args.hub.now.service.policy c.args.hub.now.service.base entries state e s.0 s.1) (sym same) s.3,
-      level_fronts (g.P.Peers.written c.next.new.self) c.loop.waiting (λ m. due m s.0)
-          (level_same (g.P.Peers.written c.loop.peers) (g.P.Peers.written c.next.new.self) c.loop.waiting (λ m. due m s.0) (c.in_err-peer_event.ensures.written known) s.4),
-      whole_written state s.1 (g.P.Peers.seen c.next.new.self) (g.P.Peers.written c.next.new.self) (g.P.Peers.takes_all c.next.new.self) (g.P.Peers.is_closed c.next.new.self) c.loop.waiting
-          (λ m. due m s.0)
-          (level_same (g.P.Peers.written c.loop.peers) (g.P.Peers.written c.next.new.self) c.loop.waiting (λ m. due m s.0) (c.in_err-peer_event.ensures.written known) s.4)
-          (subst (λ (e : List HubEvent). IsWhole state s.1 e (g.P.Peers.takes_all c.next.new.self) (g.P.Peers.is_closed c.next.new.self) c.loop.waiting (λ m. due m s.0)) (sym same)
-          (whole_same state s.1 (g.P.Peers.seen c.loop.peers) (g.P.Peers.takes_all c.loop.peers) (g.P.Peers.takes_all c.next.new.self) (g.P.Peers.is_closed c.loop.peers)
-          (g.P.Peers.is_closed c.next.new.self) c.loop.waiting (λ m. due m s.0) (c.in_err-peer_event.ensures.takes known) (c.in_err-peer_event.ensures.closed known) s.5)),
+      each.0,
+      each.1,
+      each.2,
     )
 
 pub returns-in_default-clause-fronts : goal.returns-in_default-clause-fronts
@@ -110,29 +109,25 @@ returns-in_default-clause-fronts g c = λ known entries state unseen unwritten k
     let s = c.loop.invariant.served known entries state unseen unwritten knows is honest in
     let same : g.P.Peers.seen c.next.new.self ≡ g.P.Peers.seen c.loop.peers =
     nothing_told (g.P.Peers.seen c.loop.peers) (told_by (Ok c.in_ok-peer_event.field-0)) (g.P.Peers.seen c.next.new.self) (c.in_ok-peer_event.ensures.seen known)
-    (ap (λ (o : Option PeerEvent). told_by (Ok o)) c.in_default.is) in (
+    (ap (λ (o : Option PeerEvent). told_by (Ok o)) c.in_default.is) in
+    let served = subst (λ (e : List HubEvent). IsServed state s.1 e (g.P.Peers.written c.next.new.self) (g.P.Peers.takes_all c.next.new.self) (g.P.Peers.is_closed c.next.new.self) c.loop.waiting
+    (λ m. due m s.0) (λ m. is_shut m s.0)) (sym same)
+    (served_same state s.1 (g.P.Peers.seen c.loop.peers) (g.P.Peers.written c.loop.peers) (g.P.Peers.written c.next.new.self) (g.P.Peers.takes_all c.loop.peers) (g.P.Peers.takes_all c.next.new.self)
+    (g.P.Peers.is_closed c.loop.peers) (g.P.Peers.is_closed c.next.new.self) c.loop.waiting (λ m. due m s.0) (λ m. is_shut m s.0) (c.in_ok-peer_event.ensures.written known)
+    (c.in_ok-peer_event.ensures.takes known) (c.in_ok-peer_event.ensures.closed known) s.4) in
+    let each = served_each state s.1 (g.P.Peers.seen c.next.new.self) (g.P.Peers.written c.next.new.self) (g.P.Peers.takes_all c.next.new.self) (g.P.Peers.is_closed c.next.new.self) c.loop.waiting
+    (λ m. due m s.0) (λ m. is_shut m s.0) served in (
       s.0,
       s.1,
       s.2,
       subst (λ (e : List HubEvent). Runs c.args.hub.now.service.policy c.args.hub.now.service.base entries state e s.0 s.1) (sym same) s.3,
-      level_fronts (g.P.Peers.written c.next.new.self) c.loop.waiting (λ m. due m s.0)
-          (level_same (g.P.Peers.written c.loop.peers) (g.P.Peers.written c.next.new.self) c.loop.waiting (λ m. due m s.0) (c.in_ok-peer_event.ensures.written known) s.4),
-      whole_written state s.1 (g.P.Peers.seen c.next.new.self) (g.P.Peers.written c.next.new.self) (g.P.Peers.takes_all c.next.new.self) (g.P.Peers.is_closed c.next.new.self) c.loop.waiting
-          (λ m. due m s.0)
-          (level_same (g.P.Peers.written c.loop.peers) (g.P.Peers.written c.next.new.self) c.loop.waiting (λ m. due m s.0) (c.in_ok-peer_event.ensures.written known) s.4)
-          (subst (λ (e : List HubEvent). IsWhole state s.1 e (g.P.Peers.takes_all c.next.new.self) (g.P.Peers.is_closed c.next.new.self) c.loop.waiting (λ m. due m s.0)) (sym same)
-          (whole_same state s.1 (g.P.Peers.seen c.loop.peers) (g.P.Peers.takes_all c.loop.peers) (g.P.Peers.takes_all c.next.new.self) (g.P.Peers.is_closed c.loop.peers)
-          (g.P.Peers.is_closed c.next.new.self) c.loop.waiting (λ m. due m s.0) (c.in_ok-peer_event.ensures.takes known) (c.in_ok-peer_event.ensures.closed known) s.5)),
+      each.0,
+      each.1,
+      each.2,
     )
 
 pub returns-clause-fronts : goal.returns-clause-fronts
 returns-clause-fronts g c = λ known entries state unseen unwritten knows is honest.
-    let s = c.loop.invariant.served known entries state unseen unwritten knows is honest in (
-      s.0,
-      s.1,
-      s.2,
-      s.3,
-      level_fronts (g.P.Peers.written c.loop.peers) c.loop.waiting (λ m. due m s.0) s.4,
-      whole_written state s.1 (g.P.Peers.seen c.loop.peers) (g.P.Peers.written c.loop.peers) (g.P.Peers.takes_all c.loop.peers) (g.P.Peers.is_closed c.loop.peers) c.loop.waiting
-          (λ m. due m s.0) s.4 s.5,
-    )
+    let s = c.loop.invariant.served known entries state unseen unwritten knows is honest in
+    let each = served_each state s.1 (g.P.Peers.seen c.loop.peers) (g.P.Peers.written c.loop.peers) (g.P.Peers.takes_all c.loop.peers) (g.P.Peers.is_closed c.loop.peers) c.loop.waiting
+    (λ m. due m s.0) (λ m. is_shut m s.0) s.4 in (s.0, s.1, s.2, s.3, each.0, each.1, each.2)
