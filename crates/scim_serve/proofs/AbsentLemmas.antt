@@ -1,16 +1,17 @@
--- Which connections are absent after an event.
+-- Which connections are absent or shut after an event.
 use Rattle.std.proofs.Common.{◌≡◌, ◌∙◌, refl, sym, ap, inl, inr, ℕ, ◌==◌, ◌⊎◌, Bool, true, false, List, [], ◌∷◌, ◌++◌, if◌then◌else◌}
-use Rattle.std.specs.Prelude.{Result}
+use Rattle.std.specs.Prelude.{Result, Ok, Err}
 use Rattle.std.proofs.lemmas.Bool.{eqb-true, eqb-false, or_parts}
 use Rattle.scim_policy.specs.Rules.{Rule}
 use Rattle.scim_token.specs.TokenFile.{Entry}
 use Rattle.scim_shelf.specs.Stores.{Store}
 use Rattle.scim_hub.specs.declared.events.HubFault.{HubFault}
+use Rattle.scim_hub.specs.declared.events.HubFault.TheVariants.{NoMemory}
 use Rattle.scim_hub.specs.declared.events.Stamp.{Stamp}
-use Rattle.scim_hub.specs.Events.{HubEventKind, joining, sending, leaving, HubEvent, Connection, absent, joined, shut, HubState, HubOutput, Becomes, Joins, Leaves, Takes, Meets, Hears}
-use Rattle.scim_serve.specs.Serving.{leaves_now, leaves, has_left}
+use Rattle.scim_hub.specs.Events.{HubEventKind, joining, sending, leaving, HubEvent, Connection, absent, joined, shut, HubState, HubOutput, Becomes, Joins, Leaves, Takes, Meets, Hears, hub_outputs}
+use Rattle.scim_serve.specs.Serving.{shut_for, leaves_now, leaves, has_left}
 use Rattle.scim_serve.specs.code.Levels.{IsNotFor}
-use Rattle.scim_serve.proofs.EventLemmas.{none_for, fault_for, hears_only}
+use Rattle.scim_serve.proofs.EventLemmas.{none_for, fault_for, deeds_end, hears_only}
 
 same_if : (here : Bool) (c d : Connection) → (here ≡ true → ⊥) → (if here then c else d) ≡ d
 same_if true c d apart = absurd (apart refl)
@@ -52,6 +53,10 @@ left_more m (x ∷ seen) event e =
     let h = or_parts (leaves m x) (has_left m (seen ++ event ∷ [])) e in
     let k = left_more m seen event h.1 in
     (rw (h.0, k.0) refl, k.1)
+
+-- the connection was shut before, an output shuts it, or the event's connection is this one and memory ran out
+abbrev pub Ends : ℕ → ℕ → HubState → Result (List HubOutput) HubFault → Type 0
+Ends n m state result = (state.connections m ≡ shut) ⊎ ((shut_for m result ≡ true) ⊎ ((result ≡ Err NoMemory) × (n ≡ m)))
 
 module _ (policy : List Rule) (base : List ℕ) (entries : List Entry) where
   takes_other : (c : Connection) (stamp : Stamp) (n m : ℕ) (bytes : List ℕ) (state : HubState) (result : Result (List HubOutput) HubFault) (next : HubState)
@@ -110,3 +115,40 @@ module _ (policy : List Rule) (base : List ℕ) (entries : List Entry) where
   pub hears_left : (event : HubEvent) (m : ℕ) (state : HubState) (result : Result (List HubOutput) HubFault) (next : HubState)
       → Hears policy base entries event state result next → leaves m event ≡ true → (next.connections m ≡ absent) × IsNotFor m result
   hears_left event m state result next hears leaves = meets_left event.kind event.stamp event.connection m state result next hears leaves
+
+  set_open : (n m : ℕ) (c : Connection) (store : Store) (state next : HubState) → (c ≡ shut → ⊥) → Becomes n c store state next → (n == m) ≡ true → next.connections m ≡ shut → ⊥
+  set_open n m c store state next apart becomes here ends = apart (sym (set_here n m c store state next becomes here) ∙ ends)
+
+  joins_shut : (c : Connection) (n m : ℕ) (state : HubState) (result : Result (List HubOutput) HubFault) (next : HubState) → Joins c n state result next → (n == m) ≡ true
+      → next.connections m ≡ shut → state.connections m ≡ shut
+  joins_shut absent n m state result next (inl is) here ends = absurd (set_open n m (joined [] []) _ state next (λ e. let h = e in cc) is.1 here ends)
+  joins_shut absent n m state result next (inr is) here ends = sym (denied_stays m state next is.1) ∙ ends
+  joins_shut (joined stream items) n m state result next is here ends = sym (denied_stays m state next is.1) ∙ ends
+  joins_shut shut n m state result next is here ends = sym (denied_stays m state next is.1) ∙ ends
+
+  taken_shut : (closed : Bool) (n m : ℕ) (texts : List (List ℕ)) (c : Connection) (store : Store) (state : HubState) (result : Result (List HubOutput) HubFault) (next : HubState)
+      → (c ≡ shut → ⊥) → result ≡ Ok (hub_outputs n texts closed) → Becomes n (if closed then shut else c) store state next → (n == m) ≡ true → next.connections m ≡ shut → shut_for m result ≡ true
+  taken_shut true n m texts c store state result next apart is becomes here ends = ap (shut_for m) is ∙ deeds_end n m texts here
+  taken_shut false n m texts c store state result next apart is becomes here ends = absurd (set_open n m c store state next apart becomes here ends)
+
+  takes_shut : (c : Connection) (stamp : Stamp) (n m : ℕ) (bytes : List ℕ) (state : HubState) (result : Result (List HubOutput) HubFault) (next : HubState)
+      → Takes policy base entries c stamp n bytes state result next → (n == m) ≡ true → next.connections m ≡ shut → Ends n m state result
+  takes_shut absent stamp n m bytes state result next is here ends = inl (sym (denied_stays m state next is.1) ∙ ends)
+  takes_shut shut stamp n m bytes state result next is here ends = inl (sym (denied_stays m state next is.1) ∙ ends)
+  takes_shut (joined stream items) stamp n m bytes state result next (inl taken) here ends =
+      inr (inl (taken_shut taken.closed n m taken.texts (joined (stream ++ bytes) (items ++ taken.new)) taken.store state result next (λ e. let h = e in cc) taken.result_is taken.becomes here ends))
+  takes_shut (joined stream items) stamp n m bytes state result next (inr cut) here ends = inr (inr (cut.result_is, eqb-true n m here))
+
+  meets_shut : (kind : HubEventKind) (stamp : Stamp) (n m : ℕ) (state : HubState) (result : Result (List HubOutput) HubFault) (next : HubState)
+      → Meets policy base entries kind stamp n state result next → (n == m) ≡ true → next.connections m ≡ shut → Ends n m state result
+  meets_shut joining stamp n m state result next meets here ends = inl (joins_shut (state.connections n) n m state result next meets here ends)
+  meets_shut (sending bytes) stamp n m state result next meets here ends = takes_shut (state.connections n) stamp n m bytes state result next meets here ends
+  meets_shut leaving stamp n m state result next meets here ends =
+      absurd (let e = sym (meets_left leaving stamp n m state result next meets here).0 ∙ ends in cc)
+
+  -- a connection that the hub shut was shut before, or by an output, or memory ran out for it
+  pub hears_shut : (event : HubEvent) (m : ℕ) (state : HubState) (result : Result (List HubOutput) HubFault) (next : HubState) (same : Bool)
+      → Hears policy base entries event state result next → (event.connection == m) ≡ same → next.connections m ≡ shut → Ends event.connection m state result
+  hears_shut event m state result next true hears here ends = meets_shut event.kind event.stamp event.connection m state result next hears here ends
+  hears_shut event m state result next false hears here ends =
+      inl (sym (meets_other event.kind event.stamp event.connection m state result next hears (eqb-false event.connection m here)) ∙ ends)

@@ -34,6 +34,11 @@ deeds_shut : (n m : ℕ) (texts : List (List ℕ)) (closed : Bool) → (n ≡ m 
 deeds_shut n m [] closed apart = shut_other n m closed apart
 deeds_shut n m (text ∷ texts) closed apart = deeds_shut n m texts closed apart
 
+-- outputs that shut their connection
+pub deeds_end : (n m : ℕ) (texts : List (List ℕ)) → (n == m) ≡ true → list_any (shuts m) (hub_outputs n texts true) ≡ true
+deeds_end n m [] here = ap (λ (b : Bool). b || false) here
+deeds_end n m (text ∷ texts) here = deeds_end n m texts here
+
 -- the result has no outputs
 pub none_for : (m : ℕ) (result : Result (List HubOutput) HubFault) → result ≡ Ok [] → IsNotFor m result
 none_for m result is = subst (IsNotFor m) (sym is) (refl, refl)

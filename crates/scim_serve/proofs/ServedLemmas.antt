@@ -2,7 +2,7 @@
 use Rattle.std.proofs.Common.{◌≡◌, sym, subst, ℕ, Bool, true, false, List, [], ◌∷◌, ◌++◌}
 use Rattle.std.specs.Prelude.{◌||◌, ◌≢◌, None, Some, Result}
 use Rattle.scim_hub.specs.declared.events.HubFault.{HubFault}
-use Rattle.scim_hub.specs.Events.{HubEvent, absent, HubState, HubOutput}
+use Rattle.scim_hub.specs.Events.{HubEvent, absent, shut, HubState, HubOutput}
 use Rattle.scim_serve.specs.declared.pending_bytes.Waiting.{Waiting}
 use Rattle.scim_serve.specs.Serving.{IsFront, due_for, due, shut_for, is_shut, has_left}
 use Rattle.scim_serve.specs.code.Rests.{finished}
@@ -13,7 +13,7 @@ use Rattle.scim_serve.specs.code.Wholes.{AllTaken, StaysOpen, IsWhole}
 use Rattle.scim_serve.specs.code.Served.{IsServed}
 use Rattle.scim_serve.proofs.LevelLemmas.{level_first, level_same, level_kept, level_more, level_fronts}
 use Rattle.scim_serve.proofs.ClosingLemmas.{closing_first, closing_kept, closing_more}
-use Rattle.scim_serve.proofs.WholeLemmas.{whole_first, whole_same, whole_kept, whole_more, whole_written, whole_closed}
+use Rattle.scim_serve.proofs.WholeLemmas.{whole_first, whole_same, whole_kept, whole_more, whole_written, whole_closed, whole_ended}
 
 -- before anything happened
 pub served_first : (first : HubState) (seen : List HubEvent) (written : ℕ → List ℕ) (takes closed : ℕ → Bool) (waiting : Waiting) → seen ≡ [] → ((m : ℕ) → written m ≡ [])
@@ -65,8 +65,10 @@ pub served_each : (first state : HubState) (seen : List HubEvent) (written : ℕ
     → ((m : ℕ) → IsFront (written m) (due m))
     × ((m : ℕ) → first.connections m ≡ absent → has_left m seen ≡ false → closed m ≡ false → takes m ≡ true → written m ≡ due m)
     × ((m : ℕ) → first.connections m ≡ absent → was_shut m ≡ true → written m ≡ due m → closed m ≡ true)
+    × ((m : ℕ) → first.connections m ≡ absent → state.connections m ≡ shut → was_shut m ≡ false → closed m ≡ true)
 served_each first state seen written takes closed waiting due was_shut served = (
   level_fronts written waiting due served.level,
   whole_written first state seen written takes closed waiting due was_shut served.level served.whole,
   whole_closed first state seen written takes closed waiting due was_shut served.level served.closing served.whole,
+  whole_ended first state seen written takes closed waiting due was_shut served.whole,
 )

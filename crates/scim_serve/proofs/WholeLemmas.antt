@@ -1,13 +1,14 @@
 -- Connections that take all are given all, and closed if they were shut.
 use Rattle.std.proofs.Common.{◌≡◌, ◌∙◌, refl, sym, ap, subst, inl, inr, ℕ, ◌==◌, ◌⊎◌, Bool, true, false, List, [], ◌∷◌, ◌++◌, append_assoc}
-use Rattle.std.specs.Prelude.{◌≢◌, Option, None, Some, IsSome, IfSome, Result, ◌||◌}
+use Rattle.std.specs.Prelude.{◌≢◌, Option, None, Some, IsSome, IfSome, Result, Err, ◌||◌}
 use Rattle.std.proofs.Math.Bool.{or-false}
-use Rattle.std.proofs.lemmas.Bool.{true_from_ne_false}
+use Rattle.std.proofs.lemmas.Bool.{both_ways, or_left, or_right, true_from_ne_false}
 use Rattle.std.proofs.lemmas.List.{append-nil, append_cancel_left}
 use Rattle.scim_policy.specs.Rules.{Rule}
 use Rattle.scim_token.specs.TokenFile.{Entry}
 use Rattle.scim_hub.specs.declared.events.HubFault.{HubFault}
-use Rattle.scim_hub.specs.Events.{joining, HubEvent, Connection, absent, HubState, HubOutput, Hears}
+use Rattle.scim_hub.specs.declared.events.HubFault.TheVariants.{NoMemory}
+use Rattle.scim_hub.specs.Events.{joining, HubEvent, Connection, absent, shut, HubState, HubOutput, Hears}
 use Rattle.scim_serve.specs.declared.pending_bytes.Waiting.{Waiting}
 use Rattle.scim_serve.specs.Serving.{IsFront, due_for, due, shut_for, is_shut, leaves, has_left}
 use Rattle.scim_serve.specs.code.Rests.{Rest, finished}
@@ -15,7 +16,7 @@ use Rattle.scim_serve.specs.code.Waiting.{waiting_for}
 use Rattle.scim_serve.specs.code.Levels.{Fits, Keeps, Grows, IsLevel, IsNotFor}
 use Rattle.scim_serve.specs.code.Wholes.{AllTaken, StaysOpen, IsAway, IsWhole}
 use Rattle.scim_serve.specs.code.Closings.{IsClosing}
-use Rattle.scim_serve.proofs.AbsentLemmas.{left_more, hears_absent, hears_left}
+use Rattle.scim_serve.proofs.AbsentLemmas.{Ends, left_more, hears_absent, hears_left, hears_shut}
 use Rattle.scim_serve.proofs.EventLemmas.{hears_only}
 use Rattle.scim_serve.proofs.FitLemmas.{fits_gone, none_of_both}
 use Rattle.scim_serve.proofs.LevelLemmas.{due_more}
@@ -39,7 +40,8 @@ pub whole_first : (first : HubState) (written : ℕ → List ℕ) (takes closed 
     → IsWhole first first [] written takes closed waiting (λ m. due m []) (λ m. is_shut m [])
 whole_first first written takes closed waiting none = record {
   taken = λ m. subst (λ (o : Option Rest). AllTaken o (takes m)) (sym (none m)) tt;
-  open_to = λ m away unclosed. inr (away, (λ left. refl), (λ shut. absurd (let s = shut in cc)));
+  open_to = λ m away unclosed. inr (away, (λ left. refl), (λ shuts. absurd (let s = shuts in cc)));
+  ended = λ m away unclosed ends. absurd (let e = sym away ∙ ends in cc);
 }
 
 taken_still : (rest : Option Rest) (takes takes_then : Bool) → (takes_then ≡ true → takes ≡ true) → AllTaken rest takes → AllTaken rest takes_then
@@ -55,6 +57,7 @@ whole_same first state seen written written_then takes takes_then closed closed_
   open_to = λ m away unclosed.
       subst (λ (w : List ℕ). IsSome (waiting_for waiting m) ⊎ IsAway (state.connections m) (has_left m seen) w (due m) (was_shut m)) (sym (same m))
       (whole.open_to m away (sym (same_closed m) ∙ unclosed));
+  ended = λ m away unclosed. whole.ended m away (sym (same_closed m) ∙ unclosed);
 }
 
 -- where a connection can't be written to, nothing is written
@@ -75,6 +78,7 @@ pub whole_kept : (first state : HubState) (seen : List HubEvent) (written writte
 whole_kept first state seen written written_then takes takes_then closed closed_then old new due was_shut keeps taken stays level whole = record {
   taken = λ m. taken m (whole.taken m);
   open_to = λ m away unclosed. let s = stays m unclosed in kept m (waiting_for old m) refl s.1 (whole.open_to m away s.0);
+  ended = λ m away unclosed. whole.ended m away (stays m unclosed).0;
 } where
   kept : (m : ℕ) (o : Option Rest) → waiting_for old m ≡ o → (IsSome (waiting_for old m) → IsSome (waiting_for new m))
       → IsSome (waiting_for old m) ⊎ IsAway (state.connections m) (has_left m seen) (written m) (due m) (was_shut m)
@@ -100,13 +104,27 @@ module _ (policy : List Rule) (base : List ℕ) (entries : List Entry) where
       → ((m : ℕ) → ((event.connection ≡ m → ⊥) → due_for m result ≡ []) → AllTaken (waiting_for mid m) (takes_mid m) → AllTaken (waiting_for new m) (takes_then m))
       → ((m : ℕ) → StaysOpen (waiting_for mid m) (closed_mid m) (waiting_for new m) (closed_then m))
       → Grows (λ m. due_for m result) written_mid mid written_then new
+      → (result ≡ Err NoMemory → closed_then event.connection ≡ true)
       → Hears policy base entries event state result next → IsLevel written old due → IsClosing old was_shut → IsWhole first state seen written takes closed old due was_shut
       → IsWhole first next (seen ++ event ∷ []) written_then takes_then closed_then new (λ m. due m ++ due_for m result) (λ m. was_shut m || shut_for m result)
   whole_on first state next seen event result written written_mid written_then takes takes_mid takes_then closed closed_mid closed_then old mid new due was_shut
-      taken stays leaving entered same taken_then stays_then grows hears level closing whole = record {
+      taken stays leaving entered same taken_then stays_then grows lost hears level closing whole = record {
         taken = λ m. taken_then m (λ apart. (hears_only policy base entries event state result next hears m apart).0) (taken m (whole.taken m));
         open_to = λ m away unclosed. let later = stays_then m unclosed in go m away later.0 later.1 (leaves m event) refl;
+        ended = λ m away unclosed ends.
+            ended_by m unclosed (whole.ended m away (before m (stays_then m unclosed).0 (leaves m event) refl))
+            (hears_shut policy base entries event m state result next (event.connection == m) hears refl ends);
       } where
+        before : (m : ℕ) → closed_mid m ≡ false → (left : Bool) → leaves m event ≡ left → closed m ≡ false
+        before m unclosed false e = (stays m e unclosed).0
+        before m unclosed true e = sym (leaving m e).1 ∙ unclosed
+
+        ended_by : (m : ℕ) → closed_then m ≡ false → (state.connections m ≡ shut → was_shut m ≡ true) → Ends event.connection m state result → (was_shut m || shut_for m result) ≡ true
+        ended_by m unclosed known (inl ends) = or_left (was_shut m) (shut_for m result) (known ends)
+        ended_by m unclosed known (inr (inl shuts)) = or_right (was_shut m) (shut_for m result) shuts
+        ended_by m unclosed known (inr (inr none)) =
+            absurd (both_ways (closed_then m) unclosed (subst (λ (k : ℕ). closed_then k ≡ true) none.1 (lost none.0)))
+
         settled : (m : ℕ) (o : Option Rest) → waiting_for mid m ≡ o → (IsSome (waiting_for mid m) → IsSome (waiting_for new m)) → next.connections m ≡ absent
             → (has_left m (seen ++ event ∷ []) ≡ false → due m ≡ []) → (was_shut m ≡ true → written m ≢ due m) → IsNotFor m result
             → IsSome (waiting_for new m)
@@ -149,10 +167,9 @@ module _ (policy : List Rule) (base : List ℕ) (entries : List Entry) where
             let s = stays m e unclosed in
             staying m e unclosed s.1 some (whole.open_to m away s.0)
         go m away unclosed some true e =
-            let gone = leaving m e in
             let free = hears_left policy base entries event m state result next hears e in
             settled m (waiting_for mid m) refl some free.0 (λ h. absurd (let l = (left_more m seen event h).1 in let t = e in cc))
-            (unwritten_at m (whole.open_to m away (sym gone.1 ∙ unclosed))) free.1
+            (unwritten_at m (whole.open_to m away (before m unclosed true e))) free.1
 
 -- what is due after one more event
 pub whole_more : (first state : HubState) (seen : List HubEvent) (written : ℕ → List ℕ) (takes closed : ℕ → Bool) (waiting : Waiting) (results : List (Result (List HubOutput) HubFault))
@@ -164,6 +181,7 @@ whole_more first state seen written takes closed waiting results result whole = 
       subst (λ (b : Bool). IsSome (waiting_for waiting m) ⊎ IsAway (state.connections m) (has_left m seen) (written m) (due m (results ++ result ∷ [])) b) (sym (shut_more m results result))
       (subst (λ (t : List ℕ). IsSome (waiting_for waiting m) ⊎ IsAway (state.connections m) (has_left m seen) (written m) t (is_shut m results || shut_for m result))
       (sym (due_more m results result)) (whole.open_to m away unclosed));
+  ended = λ m away unclosed ends. shut_more m results result ∙ whole.ended m away unclosed ends;
 }
 
 all_written : (state : Connection) (rest : Option Rest) (takes : Bool) (written all : List ℕ) (shuts : Bool) → Fits rest written all → AllTaken rest takes → takes ≡ true
@@ -191,3 +209,10 @@ whole_closed first state seen written takes closed waiting due was_shut level cl
     never : IsSome (waiting_for waiting m) ⊎ IsAway (state.connections m) (has_left m seen) (written m) (due m) (was_shut m) → ⊥
     never (inl some) = never_kept (waiting_for waiting m) (written m) (due m) (level.fits m) some (closing.marked m shuts) (closing.unfinished m) all
     never (inr is) = is.2 shuts all
+
+-- a connection that the hub shut without an output is closed
+pub whole_ended : (first state : HubState) (seen : List HubEvent) (written : ℕ → List ℕ) (takes closed : ℕ → Bool) (waiting : Waiting) (due : ℕ → List ℕ) (was_shut : ℕ → Bool)
+    → IsWhole first state seen written takes closed waiting due was_shut
+    → (m : ℕ) → first.connections m ≡ absent → state.connections m ≡ shut → was_shut m ≡ false → closed m ≡ true
+whole_ended first state seen written takes closed waiting due was_shut whole m away ends silent =
+    true_from_ne_false (closed m) (λ unclosed. both_ways (was_shut m) silent (whole.ended m away unclosed ends))

@@ -1,10 +1,10 @@
 //! The main loop of a server.
-ghost use Rattle.std.specs.Prelude.{◌≡◌, ◌≢◌, ◌<◌, ◌||◌, Bool, Some, ◌==◌, if◌then◌else◌, ◌++◌, ◌∷◌, ℕ, List, [], IsTrue, OnOk, Result, Option, None, IsSome, false, true, map};
+ghost use Rattle.std.specs.Prelude.{◌≡◌, ◌≢◌, ◌<◌, ◌||◌, Bool, Some, ◌==◌, if◌then◌else◌, ◌++◌, ◌∷◌, ℕ, List, [], IsTrue, OnOk, Result, Err, Option, None, IsSome, false, true, map};
 ghost use Rattle.std.specs.List.{flat_map, list_any};
 ghost use Rattle.scim_token.specs.TokenFile.{Entry};
 ghost use Rattle.scim_token.specs.Tokens.{Knows};
 ghost use Rattle.scim_hub.specs.declared.events.HubFault.{HubFault};
-ghost use Rattle.scim_hub.specs.Events.{HubEvent, absent, HubOutput, HubState, Hears, Runs, joining};
+ghost use Rattle.scim_hub.specs.Events.{HubEvent, absent, shut, HubOutput, HubState, Hears, Runs, joining};
 ghost use Rattle.scim_hub.specs.HubStates.{IsHubState, output_of, done, owned_event_of};
 ghost use Rattle.scim_serve.specs.Serving.{IsFront, text_to, due_for, due, shuts, shut_for, is_shut, leaves, has_left};
 ghost use Rattle.scim_serve.specs.code.Closings.{IsMarked, Marks, IsClosing};
@@ -248,6 +248,8 @@ fn settle<P: Peers>(
         → ((connection ≡ m → ⊥) → shut_for m (done answer.now) ≡ false)
         → waiting_for waiting.old m ≢ Some finished
         → waiting_for waiting.new m ≢ Some finished }
+    ensures lost { IsTrue P.is_known → done answer.now ≡ Err HubFault.NoMemory
+        → P.is_closed peers.new connection ≡ true }
     ensures next { waiting.new.next ≡ waiting.old.next }
 {
     match answer {
@@ -317,7 +319,9 @@ pub fn serve<P: Peers, S: Shelf>(
         → P.is_closed peers.new m ≡ false → P.takes_all peers.new m ≡ true
         → P.written peers.new m ≡ due m results)
         × ((m : ℕ) → state.connections m ≡ absent → is_shut m results ≡ true
-        → P.written peers.new m ≡ due m results → P.is_closed peers.new m ≡ true) }
+        → P.written peers.new m ≡ due m results → P.is_closed peers.new m ≡ true)
+        × ((m : ℕ) → state.connections m ≡ absent → next.connections m ≡ shut
+        → is_shut m results ≡ false → P.is_closed peers.new m ≡ true) }
     ensures over { IsTrue P.is_known → OnOk result (P.is_over peers.new ≡ true) }
     ensures honest { S.is_honest (hub_shelf hub.new) → S.is_honest (hub_shelf hub.old) }
 {

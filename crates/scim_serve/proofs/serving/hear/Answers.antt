@@ -31,7 +31,7 @@ returns-clause-heard g c = λ known entries state knows is honest.
             (written c.args.peers.now) (written c.prepare.new.peers) (written c.settle.new.peers) (takes c.args.peers.now) (takes c.prepare.new.peers) (takes c.settle.new.peers)
             (closed c.args.peers.now) (closed c.prepare.new.peers) (closed c.settle.new.peers) c.args.waiting.now c.prepare.new.waiting c.settle.new.waiting due shut
             (c.prepare.ensures.taken known) (c.prepare.ensures.stays known) (λ m left. (c.prepare.ensures.gone m left, c.prepare.ensures.unclosed known m left))
-            (c.prepare.ensures.entered known) (c.prepare.ensures.written known) (c.settle.ensures.taken known) (c.settle.ensures.stays known) (c.settle.ensures.settled known) hears
+            (c.prepare.ensures.entered known) (c.prepare.ensures.written known) (c.settle.ensures.taken known) (c.settle.ensures.stays known) (c.settle.ensures.settled known) (c.settle.ensures.lost known) hears
             served.level served.closing served.whole;
       },
     )

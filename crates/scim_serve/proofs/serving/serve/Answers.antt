@@ -102,6 +102,7 @@ returns-in_err-peer_event-clause-fronts g c = λ known entries state unseen unwr
       each.0,
       each.1,
       each.2,
+      each.3,
     )
 
 pub returns-in_default-clause-fronts : goal.returns-in_default-clause-fronts
@@ -124,10 +125,11 @@ returns-in_default-clause-fronts g c = λ known entries state unseen unwritten k
       each.0,
       each.1,
       each.2,
+      each.3,
     )
 
 pub returns-clause-fronts : goal.returns-clause-fronts
 returns-clause-fronts g c = λ known entries state unseen unwritten knows is honest.
     let s = c.loop.invariant.served known entries state unseen unwritten knows is honest in
     let each = served_each state s.1 (g.P.Peers.seen c.loop.peers) (g.P.Peers.written c.loop.peers) (g.P.Peers.takes_all c.loop.peers) (g.P.Peers.is_closed c.loop.peers) c.loop.waiting
-    (λ m. due m s.0) (λ m. is_shut m s.0) s.4 in (s.0, s.1, s.2, s.3, each.0, each.1, each.2)
+    (λ m. due m s.0) (λ m. is_shut m s.0) s.4 in (s.0, s.1, s.2, s.3, each.0, each.1, each.2, each.3)

@@ -1,4 +1,4 @@
-use Rattle.std.proofs.Common.{subst, List, map}
+use Rattle.std.proofs.Common.{rules, subst, List, map}
 use Rattle.std.specs.Prelude.{◌||◌}
 use Rattle.std.specs.List.{list_any}
 use Rattle.scim_hub.specs.declared.events.Output.{Output}
@@ -13,3 +13,6 @@ returns-in-Ok-clause-marks g c = λ m shut marked.
     let queued = c.flush.ensures.marks m (shut || list_any (shuts m) (map output_of c.as_slice.result.now)) (c.queue.ensures.marks m shut marked) in
     rw c.in-Ok.is
     (subst (λ (xs : List Output). IsMarked (waiting_for c.flush.new.waiting m) (shut || list_any (shuts m) (map output_of xs))) c.as_slice.ensures.value queued)
+
+pub returns-in-Err-NoMemory-clause-lost : goal.returns-in-Err-NoMemory-clause-lost
+returns-in-Err-NoMemory-clause-lost g c = search rules
