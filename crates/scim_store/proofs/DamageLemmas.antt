@@ -1,6 +1,6 @@
 -- Judging the rows of the tables.
 use Rattle.std.proofs.Common.{◌≡◌, ℤ, pos, ℕ, ◌+◌, ◌<◌, ◌≤◌, refl, sym, ◌∙◌, ap, subst, Bool, true, false, ◌&&◌, ◌||◌, List, [], ◌∷◌, ◌++◌, length, take, get_or, map, arith}
-use Rattle.std.specs.Prelude.{Some}
+use Rattle.std.specs.Prelude.{Some, None, IsUtf8}
 use Rattle.std.proofs.lemmas.List.{take_more, take_all, map-append, length-map, get_or-map}
 use Rattle.std.proofs.lemmas.Slice.Eq.{bytes_eq-Decides}
 use Rattle.sqlite.specs.declared.types.Value.{Value}
@@ -24,6 +24,7 @@ use Rattle.std.proofs.lemmas.Map.Text.{is_eq-slice_cmp}
 use Rattle.std.proofs.lemmas.Map.Keys.{sorted_head, sorted_tail}
 use Rattle.std.proofs.lemmas.Map.Lookups.{exact_bytes}
 use Rattle.scim_shelf.proofs.Facts.{by_bool}
+use Rattle.scim_store_rows.specs.AuditBack.{ReadsBack}
 use Rattle.scim_store_rows.specs.Stands.{is_among}
 use Rattle.std.specs.List.{AllByRecursion}
 use Rattle.std.specs.List.Sorted.{IsStrictlySortedBy}
@@ -31,7 +32,7 @@ use Rattle.std.specs.declared.cmp.Ordering.TheVariants.{Less, Equal, Greater}
 use Rattle.std.specs.Cmp.Lexicographic.{slice_cmp}
 use Rattle.scim_store.proofs.ValueLemmas.{texts_of}
 use denote.Ref.{Bor}
-use Rattle.scim_store.specs.code.Damage.{pair_of, triple_of, is_pair, is_triple, is_number, is_row, text_in, IsRowOf, HasRows, AreOfOne}
+use Rattle.scim_store.specs.code.Damage.{pair_of, triple_of, is_pair, is_triple, is_number, is_row, IsRowOf, HasRows, AreOfOne}
 use Rattle.scim_store_tables.proofs.Facts.{text_of}
 use Rattle.scim_store_rows.proofs.Facts.{tied}
 
@@ -115,11 +116,11 @@ row_is id kind document row h = (let one = and_parts _ _ h in let two = and_part
 pub row_has : (id : List ℕ) (kind : ℕ) (document : List ℕ) (row : Row) → row ≡ resource_values id kind document → is_row id kind document row ≡ true
 row_has id kind document row is = rw is (λ i. tied id i && (int_itself (pos kind) i && tied document i))
 
-pub same_text : (a b : List ℕ) (row : Row) (id : List ℕ) (kind : ℕ) → row ≡ resource_values id kind a → Some b ≡ text_in (column row 2) → a ≡ b
-same_text a b row id kind is at = (let c : Some b ≡ Some a = at ∙ ap (λ r. text_in (column r 2)) is in some_one (sym c))
+pub same_text : (a b : List ℕ) (row : Row) (id : List ℕ) (kind : ℕ) → row ≡ resource_values id kind a → Text b ≡ column row 2 → a ≡ b
+same_text a b row id kind is at = (let c : Text b ≡ Text a = at ∙ ap (λ r. column r 2) is in text_one (sym c))
   where
-    some_one : {x y : List ℕ} → Some x ≡ Some y → x ≡ y
-    some_one h = cc
+    text_one : {x y : List ℕ} → Text x ≡ Text y → x ≡ y
+    text_one h = cc
 
 -- a text is a document of one resource only
 pub same_document : (base text : List ℕ) (a b : Content) → IsDocumentText base text a → IsDocumentText base text b → a ≡ b
@@ -129,11 +130,15 @@ same_document base text a b one two = documents_are_apart base (stored_data a) a
     data_one h = cc
 
 -- the row of a resource is that of the one that its document is of
-pub no_other : (base text : List ℕ) (row : Row) (r other : Content) → IsRowOf base row other → Some text ≡ text_in (column row 2) → IsDocumentText base text r → is_row (id_text r.id) (kind_number r.kind) text row ≡ true
+pub no_other : (base text : List ℕ) (row : Row) (r other : Content) → IsRowOf base row other → Text text ≡ column row 2 → IsDocumentText base text r → is_row (id_text r.id) (kind_number r.kind) text row ≡ true
 no_other base text row r other of at reads =
     (let same = same_text of.0 text row (id_text other.id) (kind_number other.kind) of.1 at in
     let one : other ≡ r = same_document base text other r (subst (λ (t : List ℕ). IsDocumentText base t other) same of.2) reads in
     row_has (id_text r.id) (kind_number r.kind) text row (of.1 ∙ (λ i. resource_values (id_text (one i).id) (kind_number (one i).kind) (same i))))
+
+-- a row without a document in UTF-8 is of no resource
+pub no_document : (base : List ℕ) (row : Row) → ReadsBack IsUtf8 Text (column row 2) None → (c : Content) → IsRowOf base row c → ⊥
+no_document base row none c of = none of.0 of.3 (sym (ap (λ r. column r 2) of.1))
 
 -- ---- values in order
 

@@ -71,7 +71,7 @@ to_fit base (row ∷ []) names members of =
     let e : Entry = record { content = c; document = row_of.0; members = rows.1 } in (
       Some e,
       record {
-        sound = All-cons (IsEntry base) e [] (record { document = row_of.2; members = record { once = once_rising rows.1 rows.2; listed = rows.3 } }) (All-nil (IsEntry base));
+        sound = All-cons (IsEntry base) e [] (record { document = row_of.2; utf8 = row_of.3; members = record { once = once_rising rows.1 rows.2; listed = rows.3 } }) (All-nil (IsEntry base));
         keyed = few_keyed (Some e);
         resources = IsPermutation-same _ _ (ap (λ r. r ∷ []) row_of.1);
         names = IsPermutation-same _ _ (rows.0 ∙ sym (names_of_one e));
@@ -133,7 +133,7 @@ from_fit base resources names members (Some e) up fit =
     let pulled = pull_back (owned_member t) _ members (IsPermutation-sym _ _ fit.members) e.members (members_of_one e) in
     let rising = rise t pulled.0 (ascending_from_map _ (owned_member t) pulled.0 (subst (DoNotFall (0 ∷ 1 ∷ [])) pulled.2 up)) (IsDistinct-IsPermutation bytes_eq nat_list_eq_equiv.symm _ _ pulled.1 (distinct_once e.members sound.members.once)) in
     subst (λ rs. AreOfOne base rs names members) (sym one)
-    (e.content, (e.document, refl, sound.document), (named, pulled.0, rising, (λ v. sym (list_any-IsPermutation (bytes_eq v) _ _ pulled.1) ∙ sound.members.listed v), pulled.2)))
+    (e.content, (e.document, refl, sound.document, sound.utf8), (named, pulled.0, rising, (λ v. sym (list_any-IsPermutation (bytes_eq v) _ _ pulled.1) ∙ sound.members.listed v), pulled.2)))
 
 -- rows in order of more columns are in order of the first
 pub falls_less : (more : List ℕ) (rows : List Row) → DoNotFall (0 ∷ more) rows → DoNotFall (0 ∷ []) rows

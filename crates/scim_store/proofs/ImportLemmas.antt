@@ -28,7 +28,7 @@ use Rattle.scim_store.specs.Edits.{rows_of_names, rows_of_members, rows_of_docum
 use Rattle.scim_store.specs.Importing.{HoldRowsOf, Fills, LeavesImported}
 use Rattle.scim_store_rows.specs.Stands.{Entry, StandsFor, IsEntry, lists_of, resource_row, name_row, name_rows, member_rows}
 use Rattle.scim_store.proofs.RowLemmas.{reordered}
-use Rattle.scim_store.proofs.StandLemmas.{document_rows}
+use Rattle.scim_store.proofs.StandLemmas.{document_rows, document_utf8}
 
 -- ---- no rows, and more
 
@@ -62,7 +62,7 @@ hold_more base cs c e old new replaces did hold =
     record {
       entries = entry ∷ es;
       resources = IsPermutation-cons _ _ _ hold.resources;
-      sound = All-cons (IsEntry base) entry es (record { document = written.3; members = record { once = replaces.once; listed = λ v. replaces.members_come v ∙ and_true _ } }) hold.sound;
+      sound = All-cons (IsEntry base) entry es (record { document = written.3; utf8 = document_utf8 e.document written.1 written.2; members = record { once = replaces.once; listed = λ v. replaces.members_come v ∙ and_true _ } }) hold.sound;
       tables = subst (Are new) (λ i. record { resources = document i ++ map resource_row es; taken = names i ++ flat_map name_rows es; member = members i ++ flat_map member_rows es; audit = [] }) (did (lists_of es []) hold.tables);
     }
 

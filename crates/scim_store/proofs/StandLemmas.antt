@@ -1,11 +1,12 @@
 -- What the tables stand for after a change.
 use Rattle.std.proofs.Common.{◌≡◌, ◌≢◌, ℕ, ◌+◌, refl, sym, ◌∙◌, ap, subst, subst₂, get_or, Bool, true, false, not, ◌&&◌, ◌||◌, List, [], ◌∷◌, ◌++◌, map, filter, length, arith}
-use Rattle.std.specs.Prelude.{All, AllPairs, Option, None, Some, IsPermutation, string_bytes}
+use Rattle.std.specs.Prelude.{All, AllPairs, Option, None, Some, IsPermutation, IsUtf8, String, string_bytes}
 use Rattle.std.specs.Option.{option_map, option_to_list}
 use Rattle.std.specs.List.{flat_map}
 use Rattle.std.specs.Ordering.{nat_cmp, is_lt, is_gt}
 use Rattle.std.specs.Cmp.Lexicographic.{slice_cmp}
 use Rattle.std.proofs.lemmas.List.{append-nil, map-append}
+use Rattle.std.proofs.lemmas.Str.{IsUtf8-string_bytes}
 use Rattle.std.proofs.lemmas.List.Elements.{All-nil, All-cons, All-head, All-append, All-filter, All-map, All-weaker, filter_passes}
 use Rattle.std.proofs.lemmas.List.Folds.{list_any-append}
 use Rattle.std.proofs.lemmas.List.Sorted.{IsPermutation-refl, IsPermutation-cons, IsPermutation-middle, IsPermutation-trans, IsPermutation-sym}
@@ -119,6 +120,14 @@ document_rows bytes (Some d) id kind text h = ap (λ t. resource_values id kind 
     some_one : Some (bytes d) ≡ Some text → bytes d ≡ text
     some_one h = cc
 
+-- a document that is there is in UTF-8
+pub document_utf8 : {Z : Type 0} (o : Option (String Z)) (text : List ℕ) → option_map string_bytes o ≡ Some text → IsUtf8 text
+document_utf8 None text h = cc
+document_utf8 (Some d) text h = subst IsUtf8 (some_one h) (IsUtf8-string_bytes d)
+  where
+    some_one : Some (string_bytes d) ≡ Some text → string_bytes d ≡ text
+    some_one h = cc
+
 module _ (base : List ℕ) (id : List ℕ) (old : Option Content) (e : Edits) (o : Option Entry) (was : old ≡ option_map content o) (sound_o : All (IsEntry base) (option_to_list o)) where
   -- whether a value was listed
   was_listed : (v : List ℕ) → is_among v (members_in o) ≡ lists_in v old
@@ -164,7 +173,7 @@ module _ (base : List ℕ) (id : List ℕ) (old : Option Content) (e : Edits) (o
       record {
         entry = Some entry;
         is = refl;
-        sound = All-cons (IsEntry base) entry [] (record { document = written.3; members = new_members c replaces }) (All-nil (IsEntry base));
+        sound = All-cons (IsEntry base) entry [] (record { document = written.3; utf8 = document_utf8 e.document written.1 written.2; members = new_members c replaces }) (All-nil (IsEntry base));
         resources = document_rows string_bytes e.document e.id (kind_number e.kind) written.1 written.2 ∙ (λ i. resource_values (text i) (kind_number (written.0 i)) written.1 ∷ []);
         names = new_names (Some c) replaces ∙ ap (λ x. map (name_row x) (unique_names c)) (sym has) ∙ sym (append-nil (name_rows entry));
         members = ap (λ t. rows_of_members t e.members_come.items ++ map (member_row id) stay) replaces.text ∙ sym (map-append (member_row id) e.members_come.items stay) ∙ ap (λ x. map (member_row x) (e.members_come.items ++ stay)) (sym has) ∙ sym (append-nil (member_rows entry));

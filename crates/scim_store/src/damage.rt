@@ -1,17 +1,19 @@
 //! Tests whether the tables have exactly the rows of valid resources, and finds the least damaged id.
 
-ghost use Rattle.std.specs.Prelude.{◌≡◌, ◌↔◌, ◌||◌, [], ◌∷◌, ℕ, List, true, false, map, IfOk, IfSome, None, IsTrue, All, AllPairs, IsPermutation};
+ghost use Rattle.std.specs.Prelude.{◌≡◌, ◌↔◌, ◌||◌, [], ◌∷◌, ℕ, List, true, false, map, IfOk, IfSome, None, IsTrue, All, AllPairs, IsPermutation, IsUtf8};
 ghost use Rattle.std.specs.Ordering.{nat_cmp};
 ghost use Rattle.std.specs.Cmp.Lexicographic.{slice_cmp};
 ghost use Rattle.std.specs.BTreeSet.{contains};
 ghost use Rattle.std.specs.List.Sorted.{IsStrictlySortedBy};
 ghost use Rattle.std.specs.Option.{option_copied};
+ghost use Rattle.sqlite.specs.declared.types.Value.TheVariants as sql_value;
 ghost use Rattle.sqlite.specs.Order.{column};
 ghost use Rattle.scim_cell.specs.Content.{Content};
 ghost use Rattle.scim_cell.specs.Ids.{IsId, id_text};
 ghost use Rattle.scim_value.specs.Members.{lists_value};
 ghost use Rattle.scim_value.specs.Uniqueness.{name_of};
 ghost use Rattle.scim_store_rows.specs.Audit.{kind_number as spec_number};
+ghost use Rattle.scim_store_rows.specs.AuditBack.{ReadsBack};
 ghost use Rattle.scim_store_rows.specs.Stands.{is_among};
 ghost use Rattle.std.specs.List.{IsDistinct};
 ghost use Rattle.scim_store.specs.Owners.{HasOwner, is_owner};
@@ -43,10 +45,6 @@ pub(crate) enum Judged {
     /// resources share a unique name.
     Foreign,
 }
-
-/// The document of a resource isn't UTF-8, so it can't be read.
-#[derive(Clone, Copy, PartialEq, Eq)]
-pub(crate) struct Unreadable;
 
 /// The rows of `resource`, `taken` and `member`, as `read_tables` of `scim_store_tables` returns them.
 #[derive(Drop)]
@@ -159,41 +157,33 @@ fn is_row_of(row: &Row, resource: &Resource, document: &str) -> bool
         && has_text(row, 2, document)
 }
 
-/// Returns the document, the third column of a row of `resource`; `None` if it isn't a text. Fails with
-/// `Unreadable` if the text isn't UTF-8.
-fn document_of(row: &Row) -> Result<Option<&str>, Failed<Unreadable>>
-    ensures { IfOk result (λ found. option_copied found ≡ code.text_in (column row.now 2)) }
+/// Returns the document, the third column of a row of `resource`; `None` if it isn't a text in UTF-8.
+fn document_of(row: &Row) -> Option<&str>
+    ensures { ReadsBack IsUtf8 sql_value.Text (column row.now 2) (option_copied result) }
 {
     match value_in(row, 2) {
-        ValueRef::Text(bytes) => match str::from_utf8(bytes) {
-            Ok(text) => Ok(Some(text)),
-            Err(_) => Err(Failed::Because(Unreadable)),
-        },
-        ValueRef::Null => Ok(None),
-        ValueRef::Int(_) => Ok(None),
-        ValueRef::Real(_) => Ok(None),
-        ValueRef::Blob(_) => Ok(None),
+        ValueRef::Text(bytes) => str::from_utf8(bytes).ok(),
+        ValueRef::Null => None,
+        ValueRef::Int(_) => None,
+        ValueRef::Real(_) => None,
+        ValueRef::Blob(_) => None,
     }
 }
 
 /// Reads a resource from its row; `None` if the row isn't the row of a valid resource with a location below
-/// the base URI. Fails with `Unreadable` if the document isn't UTF-8.
-fn read_resource(
-    alloc: Global,
-    base: &str,
-    row: &Row,
-) -> Result<Option<Resource>, Failed<Unreadable>>
+/// the base URI.
+fn read_resource(alloc: Global, base: &str, row: &Row) -> Result<Option<Resource>, NoMemory>
     ensures some { IfOk result (λ found. IfSome found (code.IsRowOf base.now row.now)) }
     ensures none { IfOk result (λ found. found ≡ None → (c : Content)
         → code.IsRowOf base.now row.now c → ⊥) }
 {
-    let Some(document) = document_of(row)? else {
+    let Some(document) = document_of(row) else {
         return Ok(None);
     };
     let resource = match read_stored(alloc, base, document) {
         Ok(resource) => resource,
         Err(Failed::Because(_)) => return Ok(None),
-        Err(Failed::NoMemory) => return Err(Failed::NoMemory),
+        Err(Failed::NoMemory) => return Err(NoMemory),
     };
     if is_row_of(row, &resource, document) {
         Ok(Some(resource))
@@ -223,14 +213,13 @@ fn has_rows(
 }
 
 /// Whether there are no rows, or exactly the rows of one valid resource with a location below the base URI.
-/// Fails with `Unreadable` if the document isn't UTF-8.
 fn are_of_one(
     alloc: Global,
     base: &str,
     resources: &[Row],
     names: &[Row],
     members: &[Row],
-) -> Result<bool, Failed<Unreadable>>
+) -> Result<bool, NoMemory>
     ensures yes { IfOk result (λ holds. holds ≡ true
         → code.AreOfOne base.now resources.now names.now members.now) }
     ensures no { IfOk result (λ holds. holds ≡ false
@@ -239,7 +228,7 @@ fn are_of_one(
     match resources {
         [] => Ok(names.is_empty() && members.is_empty()),
         [row] => match read_resource(alloc, base, row)? {
-            Some(resource) => Ok(has_rows(alloc, &resource, names, members)?),
+            Some(resource) => has_rows(alloc, &resource, names, members),
             None => Ok(false),
         },
         _ => Ok(false),
@@ -255,14 +244,14 @@ struct Places {
 }
 
 /// Whether an id has no rows, or exactly the rows of one valid resource with a location below the base URI.
-/// Sets `places` after the rows of the id. Fails with `Unreadable` if the document isn't UTF-8.
+/// Sets `places` after the rows of the id.
 fn holds_at(
     alloc: Global,
     base: &str,
     tables: &ResourceRows,
     id: Id,
     places: &mut Places,
-) -> Result<bool, Failed<Unreadable>>
+) -> Result<bool, NoMemory>
     ensures id { IsId id }
     ensures yes { spec.AreOrdered tables.now
         → IfOk result (λ holds. holds ≡ true → spec.HoldsAt base.now tables.now id) }
@@ -278,14 +267,13 @@ fn holds_at(
 }
 
 /// Returns the least id that has rows, but not exactly the rows of one valid resource; `None` if there isn't
-/// one. Tests only the ids in `ids`: every other id must have no rows, or valid rows. Fails with `Unreadable`
-/// if a document isn't UTF-8.
+/// one. Tests only the ids in `ids`: every other id must have no rows, or valid rows.
 fn first_damage(
     alloc: Global,
     base: &str,
     tables: &ResourceRows,
     ids: &BTreeSet<Id>,
-) -> Result<Option<Id>, Failed<Unreadable>>
+) -> Result<Option<Id>, NoMemory>
     requires others { (id : List ℕ) → IsId id → contains (slice_cmp nat_cmp) ids.now id ≡ false
         → spec.HoldsAt base.now tables.now id }
     ensures some { spec.AreOrdered tables.now
@@ -393,13 +381,7 @@ fn are_sound(alloc: Global, tables: &ResourceRows) -> Result<bool, NoMemory>
 /// Tests whether the rows of the tables are exactly the rows of valid resources with locations below the base
 /// URI. The rows must be sorted: resources by id; names by owner, attribute and text; members by group and
 /// value.
-///
-/// Fails with `Unreadable` if the document of a resource isn't UTF-8.
-pub(crate) fn judge(
-    alloc: Global,
-    base: &str,
-    tables: &ResourceRows,
-) -> Result<Judged, Failed<Unreadable>>
+pub(crate) fn judge(alloc: Global, base: &str, tables: &ResourceRows) -> Result<Judged, NoMemory>
     ensures judged { spec.AreOrdered tables.now → IfOk result (spec.Judges base.now tables.now) }
 {
     let ids = owners(alloc, tables)?;

@@ -1,7 +1,9 @@
 //! The examination of a database before it is opened as a store.
 
-ghost use Rattle.std.specs.Prelude.{◌≡◌, ◌≤◌, false, IfOk, OnErr};
+ghost use Rattle.std.specs.Prelude.{◌≡◌, ◌≤◌, false, IfOk, IfErr, OnErr};
 ghost use Rattle.sqlite.specs.Effect.{Database};
+ghost use Rattle.sqlite.specs.declared.error.Error.{Error};
+ghost use Rattle.sqlite.specs.declared.error.ErrorCode.{ErrorCode};
 ghost use Rattle.sqlite.specs.State.{HasCleanDisk, Survives};
 ghost use Rattle.sqlite.specs.View.{doubt};
 ghost use Rattle.sqlite.specs.Held.{state};
@@ -15,7 +17,7 @@ use crate::damage::{Judged, ResourceRows, judge};
 use scim_cell::Id;
 use scim_store_rows::are_audit_rows;
 use scim_store_tables::{DatabaseKind, TableRows, read_tables};
-use scim_text::{Failed, NoMemory};
+use scim_text::NoMemory;
 use sqlite::{Alter, Connection, Error, ErrorCode, Row};
 use std::alloc::Global;
 
@@ -46,10 +48,11 @@ fn count_audit(alloc: Global, rows: &[Row]) -> Result<Option<u64>, NoMemory>
     }
 }
 
-/// Examines the audit rows of a database in which the rows of resources are valid. Fails with `OutOfMemory`
-/// if memory runs out.
+/// Examines the audit rows of a database in which the rows of resources are valid. Fails only with
+/// `OutOfMemory`, if memory runs out.
 fn examine_audit(alloc: Global, rows: &[Row]) -> Result<Examined, Error>
-    ensures { IfOk result (spec.IsByAudit rows.now) }
+    ensures examined { IfOk result (spec.IsByAudit rows.now) }
+    ensures memory { IfErr result (λ e. e ≡ Error.SqliteFailure ErrorCode.OutOfMemory) }
 {
     match count_audit(alloc, rows) {
         Ok(Some(count)) => Ok(Examined::Stands(count)),
@@ -58,23 +61,22 @@ fn examine_audit(alloc: Global, rows: &[Row]) -> Result<Examined, Error>
     }
 }
 
-/// Examines the rows of resources. Fails with `OutOfMemory` if memory runs out, and with `DatabaseCorrupt` if
-/// a document isn't UTF-8.
+/// Examines the rows of resources. Fails only with `OutOfMemory`, if memory runs out.
 fn judge_resources(alloc: Global, base: &str, tables: &ResourceRows) -> Result<Judged, Error>
-    ensures { AreOrdered tables.now → IfOk result (Judges base.now tables.now) }
+    ensures judged { AreOrdered tables.now → IfOk result (Judges base.now tables.now) }
+    ensures memory { IfErr result (λ e. e ≡ Error.SqliteFailure ErrorCode.OutOfMemory) }
 {
     match judge(alloc, base, tables) {
         Ok(judged) => Ok(judged),
-        Err(Failed::Because(_)) => Err(Error::SqliteFailure(ErrorCode::DatabaseCorrupt)),
-        Err(Failed::NoMemory) => Err(Error::SqliteFailure(ErrorCode::OutOfMemory)),
+        Err(NoMemory) => Err(Error::SqliteFailure(ErrorCode::OutOfMemory)),
     }
 }
 
-/// Examines all rows of the tables. Fails with `OutOfMemory` if memory runs out, and with `DatabaseCorrupt`
-/// if a document isn't UTF-8.
+/// Examines all rows of the tables. Fails only with `OutOfMemory`, if memory runs out.
 fn examine_rows(alloc: Global, base: &str, rows: TableRows) -> Result<Examined, Error>
-    ensures { IfOk result (λ it. (db : Database) → Are db (shown db) → AreRowsOf (shown db) rows
-        → spec.IsFor base.now db it) }
+    ensures examined { IfOk result (λ it. (db : Database) → Are db (shown db)
+        → AreRowsOf (shown db) rows → spec.IsFor base.now db it) }
+    ensures memory { IfErr result (λ e. e ≡ Error.SqliteFailure ErrorCode.OutOfMemory) }
 {
     let TableRows {
         resources,
@@ -97,9 +99,8 @@ fn examine_rows(alloc: Global, base: &str, rows: TableRows) -> Result<Examined, 
 /// Examines a database as a store of resources with locations below the base URI. Reads all rows, in time
 /// nearly linear in their number.
 ///
-/// Fails with the database's error, with `OutOfMemory` if memory runs out, or with `DatabaseCorrupt` if the
-/// document of a resource isn't UTF-8. Also fails if a key isn't a number. Then the connection is closed, or
-/// its database is unchanged or as the last commit left it.
+/// Fails with the database's error, or with `OutOfMemory` if memory runs out. Also fails if a key isn't a
+/// number. Then the connection is closed, or its database is unchanged or as the last commit left it.
 pub(crate) fn examine<S: Alter>(
     conn: &mut Connection<S>,
     alloc: Global,

@@ -1,5 +1,5 @@
 -- The relation between the tables of a database and the store that they hold.
-use Rattle.std.specs.Prelude.{◌≡◌, ◌≢◌, ℕ, Bool, nat_eq, List, map, All, AllPairs}
+use Rattle.std.specs.Prelude.{◌≡◌, ◌≢◌, ℕ, Bool, nat_eq, List, map, All, AllPairs, IsUtf8}
 use Rattle.std.specs.List.{flat_map, list_any}
 use Rattle.std.specs.Cmp.Lexicographic.{pointwise}
 use Rattle.sqlite.specs.Order.{Row}
@@ -30,10 +30,11 @@ pub record AreMembers (c : Content) (values : List (List ℕ)) : Type 0 where
   pub once : AllPairs (λ v w. v ≢ w) values
   pub listed : (value : List ℕ) → is_among value values ≡ lists_value value c
 
--- The entry has a valid document of its resource, and exactly the values that the resource lists among its
--- members.
+-- The entry has a valid document of its resource, in UTF-8, and exactly the values that the resource lists
+-- among its members.
 pub record IsEntry (base : List ℕ) (e : Entry) : Type 0 where
   pub document : IsDocumentText base e.document e.content
+  pub utf8 : IsUtf8 e.document
   pub members : AreMembers e.content e.members
 
 -- The row of a resource in `resource`.

@@ -1,5 +1,5 @@
 -- The rows of one resource, as the code compares them.
-use Rattle.std.specs.Prelude.{◌≡◌, ◌<◌, ◌≤◌, ◌-◌, ℕ, nat_eq, pos, ◌==◌, Bool, true, false, ◌&&◌, List, [], ◌∷◌, length, get_or, map, All, Option, None, Some}
+use Rattle.std.specs.Prelude.{◌≡◌, ◌<◌, ◌≤◌, ◌-◌, ℕ, nat_eq, pos, ◌==◌, Bool, true, false, ◌&&◌, List, [], ◌∷◌, length, get_or, map, All, Option, None, Some, IsUtf8}
 use Rattle.std.specs.Ordering.{int_eq, nat_cmp}
 use Rattle.std.specs.Cmp.Lexicographic.{slice_cmp, pointwise}
 use Rattle.std.specs.HashSet.{HashSet, contains_by}
@@ -58,9 +58,10 @@ abbrev pub text_in : Value → Option (List ℕ)
 text_in (Text t) = Some t
 text_in _ = None
 
--- A row has the id, the kind and a valid document of the resource, whose location is below the base URI.
+-- A row has the id, the kind and a valid document of the resource, in UTF-8. The location of the resource is
+-- below the base URI.
 abbrev pub IsRowOf : List ℕ → Row → Content → Type 0
-IsRowOf base row c = (document : List ℕ) × (row ≡ resource_values (id_text c.id) (kind_number c.kind) document) × IsDocumentText base document c
+IsRowOf base row c = (document : List ℕ) × (row ≡ resource_values (id_text c.id) (kind_number c.kind) document) × IsDocumentText base document c × IsUtf8 document
 
 -- `names` and `members` are exactly the rows of the unique names and of the member values of the resource, in
 -- order.
