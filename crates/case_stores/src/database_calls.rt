@@ -6,6 +6,7 @@ use crate::databases::{OverDatabase, base_of, fill, over_new_database};
 use crate::faults::{StoreFault, told_or_fault};
 use case_values::{Case, CaseFault, between, joined, said};
 use scim_store::{OpenFault, SqlShelf};
+use scim_store_tables::foreign_object;
 use sqlite::{Alter, Connection};
 use std::alloc::Global;
 
@@ -26,7 +27,7 @@ impl OverDatabase for Opening {
         let connection = prepared(case, connection)?;
         match SqlShelf::open(case.alloc, connection, base_of(case)) {
             Ok(shelf) => told_of_audit(case.alloc, shelf),
-            Err((fault, _connection)) => Ok(told_of_fault(case.alloc, fault)?),
+            Err((fault, connection)) => Ok(told_of_fault(case.alloc, fault, &connection)?),
         }
     }
 }
@@ -76,14 +77,31 @@ fn told_of_audit<S: Audited>(alloc: Global, shelf: S) -> Result<String, StoreFau
     Ok(between(alloc, "opens, rows of the audit: ", &rows?.len(), "")?)
 }
 
-fn told_of_fault(alloc: Global, fault: OpenFault) -> Result<String, CaseFault> {
+/// Returns the words for the fault with which a database can't be opened.
+fn told_of_fault<S: Alter>(
+    alloc: Global,
+    fault: OpenFault,
+    connection: &Connection<S>,
+) -> Result<String, CaseFault> {
     match fault {
         OpenFault::WrongVersion => said(alloc, "wrong version"),
         OpenFault::Damaged(id) => {
             let id = id.text(alloc)?;
             joined(alloc, &["damaged ", id.as_str()])
         }
-        OpenFault::Store | OpenFault::Device => said(alloc, "cannot be used"),
+        OpenFault::Store => told_of_unusable(alloc, connection),
+        OpenFault::Device => said(alloc, "cannot be used"),
         OpenFault::NoMemory => Err(CaseFault::NoMemory),
+    }
+}
+
+/// Returns the words for a database that can't be used, with the first object of another program, if any.
+fn told_of_unusable<S: Alter>(
+    alloc: Global,
+    connection: &Connection<S>,
+) -> Result<String, CaseFault> {
+    match foreign_object(connection.schema()) {
+        Some(object) => Ok(between(alloc, "cannot be used: ", &object, "")?),
+        None => said(alloc, "cannot be used"),
     }
 }

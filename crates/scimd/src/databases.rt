@@ -1,14 +1,17 @@
 //! The commands over a database file.
 use clap::ArgMatches;
 use scim_command::{
-    AuditOptions, CommandFault, DEFAULT_BASE, ExplainOptions, ExportOptions, FileKind,
-    ImportOptions, find_file, policy_at, read_file,
+    AuditOptions, CommandFault, DEFAULT_BASE, DatabaseFault, ExplainOptions, ExportOptions,
+    FileKind, ImportOptions, RunFault, find_file, policy_at, read_file,
 };
 use scim_command_database::{DatabaseWork, Explaining, Importing, Question, unopened};
 use scim_json::read_documents;
-use sqlite::Connection;
+use scim_store_tables::foreign_object;
+use sqlite::{Alter, Connection};
 
-/// Opens the database at a path, runs a command on it, and closes it. Creates the file if it doesn't exist.
+/// Opens the database at a path, runs a command on it, and closes it. Creates the file if it doesn't exist. If
+/// the command can't use the database, prints on standard error which table, index or view isn't one of this
+/// server's, if there is one.
 ///
 /// Fails with `Database` or `NoMemory` if the database can't be opened, or with the error of the command. A
 /// failed close loses nothing: committed changes are in the log, which is read when the database is next
@@ -21,10 +24,30 @@ pub(crate) fn with_database<W: DatabaseWork + Drop>(
     match Connection::open(rt, path) {
         Ok(connection) => {
             let (done, connection) = work.over(rt.alloc(), connection, &mut rt.stdout());
+            if is_unusable(&done) {
+                tell_foreign_object(rt, &connection);
+            }
             let _closed = connection.close();
             done
         }
         Err(error) => Err(CommandFault::Run(unopened(error))),
+    }
+}
+
+/// Whether a command failed because it can't use the database.
+fn is_unusable(done: &Result<(), CommandFault>) -> bool {
+    matches!(
+        done,
+        Err(CommandFault::Run(RunFault::Database(DatabaseFault::Unusable)))
+    )
+}
+
+/// Prints a line on standard error that names the first table, index or view that isn't one of this server's.
+/// Prints nothing if there is none. The line comes before the line of the fault; if it can't be written, the
+/// fault is printed without it.
+fn tell_foreign_object<S: Alter>(rt: &HostRuntime, connection: &Connection<S>) {
+    if let Some(object) = foreign_object(connection.schema()) {
+        let _written = eprintln!(rt; "scimd: {object}");
     }
 }
 
