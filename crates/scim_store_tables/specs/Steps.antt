@@ -55,7 +55,7 @@ pub record Undoes (old new : State) : Type 0 where
   pub now : IsTrue new.is_open → new.now ≡ old.committed
   pub committed : IsTrue new.is_open → new.committed ≡ old.committed
 
--- `trees` are the trees of some database to which `P` relates the database `old`. A commit writes these trees
--- to the disk.
+-- `trees` are the trees of a database `db` for which `P old db` is true. They may be left on the disk, since a
+-- commit writes the trees of such a database.
 abbrev pub Leaves : (Database → Database → Type 0) → Database → Trees → Type 0
 Leaves P old trees = (db : Database) × (trees ≡ db.trees) × P old db

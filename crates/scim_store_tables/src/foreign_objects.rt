@@ -82,7 +82,7 @@ fn foreign_index(indexes: &[Index]) -> Option<&Index>
     indexes.iter().find(|index| !is_our_index(index))
 }
 
-/// Returns the object that an entry of the schema's views stands for.
+/// Returns the object for an entry of the schema's list of views, which also has the unsupported objects.
 fn of_view(view: &View) -> ForeignObject<'_>
     ensures { spec.IsOfView view.now result }
 {
@@ -94,10 +94,11 @@ fn of_view(view: &View) -> ForeignObject<'_>
     }
 }
 
-/// Returns the first table that isn't one of version 1; if there is none, the first such index; if there is
-/// none, the first view or unsupported object. Tables and indexes are known by their names, ignoring the case of ASCII letters.
+/// Returns the first table that isn't one of version 1; if there is none, the first such index; and if there is
+/// none either, the first view or unsupported object. Tables and indexes are compared by name, ignoring the
+/// case of ASCII letters.
 ///
-/// `None` means that the schema has no other names than version 1; it may still be another schema.
+/// `None` means that the schema has no other names than version 1. It may still be another schema.
 pub fn foreign_object(schema: &Schema) -> Option<ForeignObject<'_>>
     ensures none { result ≡ None → spec.HasOnlyOurs schema.now }
     ensures some { IfSome result (spec.IsForeignIn schema.now) }
