@@ -16,7 +16,7 @@ use Rattle.scim_store.specs.Beginning.{no_store, Begins}
 use Rattle.scim_store.proofs.ShelfLemmas.{clean_before}
 use Rattle.scim_store_tables.specs.Lists.{Are}
 use Rattle.scim_store_tables.specs.Reading.{shown, Rests}
-use Rattle.scim_store_tables.specs.Whole.{AreRowsOf as AreRead, Is, IsUntouched}
+use Rattle.scim_store_tables.specs.Whole.{AreRowsOf as AreRead, Is, IsUntouched, IsReading}
 use Rattle.scim_store_tables.specs.declared.database_kinds.TableRows.{TableRows}
 use Rattle.scim_store_tables.specs.declared.database_kinds.DatabaseKind.TheVariants.{WrongVersion as OtherVersion, Foreign as OtherProgram}
 use Rattle.scim_store_tables.proofs.Facts.{order_rising}
@@ -124,6 +124,9 @@ audit_read base db rows held read sound none = (
 
 pub other_read : (base : List ℕ) (db : Database) → Is db OtherVersion → IsFor base db WrongVersion
 other_read base db is = (is, λ store sound stands. other_stand base db is store stands)
+
+pub other_examined : (base : List ℕ) (old new : State) → IsReading old new OtherVersion → Examines base old new WrongVersion
+other_examined base old new reading = record { is = other_read base old.now reading.is; untouched = reading.untouched }
 
 pub program_read : (base : List ℕ) (db : Database) → Is db OtherProgram → IsFor base db Foreign
 program_read base db is = (inl is, λ store sound stands. foreign_stand base db is store stands)
