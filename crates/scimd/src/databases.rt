@@ -36,10 +36,13 @@ pub(crate) fn with_database<W: DatabaseWork + Drop>(
 
 /// Whether a command failed because it can't use the database.
 fn is_unusable(done: &Result<(), CommandFault>) -> bool {
-    matches!(
-        done,
-        Err(CommandFault::Run(RunFault::Database(DatabaseFault::Unusable)))
-    )
+    match done {
+        Ok(()) => false,
+        Err(fault) => match fault {
+            CommandFault::Run(fault) => *fault == RunFault::Database(DatabaseFault::Unusable),
+            _ => false,
+        },
+    }
 }
 
 /// Prints a line on standard error that names the first table, index or view that isn't one of this server's.
