@@ -3,8 +3,9 @@ use Rattle.std.proofs.Common.{List, ℕ}
 use Rattle.sqlite.specs.Effect.{Database}
 use Rattle.sqlite.specs.State.{State}
 use Rattle.scim_store_tables.specs.Whole.{Is, AreNone, IsUntouched}
-use Rattle.scim_store_tables.specs.declared.database_kinds.DatabaseKind.TheVariants.{WrongVersion, Foreign}
-use Rattle.scim_store_tables.proofs.Facts.{other_none, foreign_none}
+use Rattle.scim_store_tables.specs.declared.database_kinds.TableRows.{TableRows}
+use Rattle.scim_store_tables.specs.declared.database_kinds.DatabaseKind.TheVariants.{WrongVersion, Foreign, Altered}
+use Rattle.scim_store_tables.proofs.Facts.{other_none, foreign_none, altered_none}
 use Rattle.scim_store_rows.specs.Stands.{lists_of}
 use Rattle.scim_store.specs.Committing.{StandForNone, Stays}
 
@@ -17,6 +18,9 @@ other_stand base db is = none_stand base db (other_none db is)
 
 pub foreign_stand : (base : List ℕ) (db : Database) → Is db Foreign → StandForNone base db
 foreign_stand base db is = none_stand base db (foreign_none db is)
+
+pub altered_stand : (base : List ℕ) (db : Database) (rows : TableRows) → Is db (Altered rows) → StandForNone base db
+altered_stand base db rows is = none_stand base db (altered_none db rows is)
 
 pub untouched_stays : (old new : State) → IsUntouched old new → Stays old new
 untouched_stays old new same = record {

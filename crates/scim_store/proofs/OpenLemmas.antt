@@ -18,18 +18,21 @@ use Rattle.scim_store_tables.specs.Lists.{Are}
 use Rattle.scim_store_tables.specs.Reading.{shown, Rests}
 use Rattle.scim_store_tables.specs.Whole.{AreRowsOf as AreRead, Is, IsUntouched, IsReading}
 use Rattle.scim_store_tables.specs.declared.database_kinds.TableRows.{TableRows}
-use Rattle.scim_store_tables.specs.declared.database_kinds.DatabaseKind.TheVariants.{WrongVersion as OtherVersion, Foreign as OtherProgram}
+use Rattle.scim_store_tables.specs.declared.database_kinds.DatabaseKind.TheVariants.{WrongVersion as OtherVersion, Foreign as OtherProgram, Altered}
 use Rattle.scim_store_tables.proofs.Facts.{order_rising}
-use Rattle.scim_store_tables.proofs.Facts.{rows_of, holds_lists}
+use Rattle.scim_store_tables.proofs.Facts.{rows_of, holds_lists, altered_rows, altered_further}
 use Rattle.scim_store_rows.specs.Audit.{audit_rows}
-use Rattle.scim_store.specs.Damage.{AreOrdered, AreSound, IsLeastDamage, IsForeign}
-use Rattle.scim_store.specs.Opening.{resource_tables, CountsAudit, IsByAudit, IsFor, Examines}
+use Rattle.scim_cell.specs.Ids.{IsId}
+use Rattle.scim_store.specs.Damage.{AreOrdered, AreSound, HoldsAt, IsLeastDamage, IsForeign, Judges}
+use Rattle.scim_store.specs.declared.damage.Judged.{Judged}
+use Rattle.scim_store.specs.declared.damage.Judged.TheVariants.{Sound, Damaged as DamagedAt, Foreign as ForeignRows}
+use Rattle.scim_store.specs.Opening.{resource_tables, CountsAudit, IsByAudit, by_judged, IsFor, Examines}
 use Rattle.scim_store_rows.specs.Finding.{StandsIn}
 use Rattle.scim_store.specs.Shelves.{IsKeptIn, HasOpened, LeavesBegun}
 use Rattle.scim_store.specs.declared.examining.Examined.{Examined}
 use Rattle.scim_store.specs.declared.examining.Examined.TheVariants.{Empty, Stands, WrongVersion, Damaged, Foreign}
 use Rattle.scim_store_rows.specs.Stands.{Entry, StandsFor, lists_of, name_row, name_rows, member_row, member_rows}
-use Rattle.scim_store.proofs.NoneLemmas.{other_stand, foreign_stand}
+use Rattle.scim_store.proofs.NoneLemmas.{other_stand, foreign_stand, altered_stand}
 use Rattle.scim_store_rows.proofs.Facts.{contents}
 use Rattle.scim_store.proofs.SoundLemmas.{sound_holds}
 use Rattle.scim_store_rows.proofs.Facts.{rows_rise}
@@ -108,13 +111,13 @@ damaged_read base db rows id read least = (
 
 pub foreign_read : (base : List ℕ) (db : Database) (rows : TableRows) → Are db (shown db) → AreRead (shown db) rows → IsForeign base (resource_tables rows) → IsFor base db Foreign
 foreign_read base db rows held read foreign = (
-  inr (record { tables = held; rows = rows; read = read; holds = foreign.holds }),
+  inr (record { tables = inl held; rows = rows; read = read; holds = foreign.holds }),
   λ store sound stands. foreign.unsound (sound_of base db rows store read stands),
 )
 
 pub audit_read : (base : List ℕ) (db : Database) (rows : TableRows) → Are db (shown db) → AreRead (shown db) rows → AreSound base (resource_tables rows) → CountsAudit rows.audit.items None → IsFor base db Foreign
 audit_read base db rows held read sound none = (
-  inr (record { tables = held; rows = rows; read = read; holds = λ id is. sound_holds base (resource_tables rows) id is sound }),
+  inr (record { tables = inl held; rows = rows; read = read; holds = λ id is. sound_holds base (resource_tables rows) id is sound }),
   λ store valid stands.
       (let told = rows_of db (lists_of stands.entries store.audit) rows stands.tables read in
       none store.audit valid (sym (order_rising (0 ∷ []) (audit_rows 1 store.audit) rows.audit.items (rows_rise 1 store.audit) told.audit.same told.audit.order))),
@@ -130,6 +133,22 @@ other_examined base old new reading = record { is = other_read base old.now read
 
 pub program_read : (base : List ℕ) (db : Database) → Is db OtherProgram → IsFor base db Foreign
 program_read base db is = (inl is, λ store sound stands. foreign_stand base db is store stands)
+
+-- ---- tables with further rows of `setting`
+
+altered_foreign : (base : List ℕ) (db : Database) (rows : TableRows) → Is db (Altered rows) → ((id : List ℕ) → IsId id → HoldsAt base (resource_tables rows) id) → IsFor base db Foreign
+altered_foreign base db rows is holds = (
+  inr (record { tables = inr (altered_further db rows is); rows = rows; read = altered_rows db rows is; holds = holds }),
+  λ store sound stands. altered_stand base db rows is store stands,
+)
+
+pub altered_read : (base : List ℕ) (db : Database) (rows : TableRows) (it : Judged) → Is db (Altered rows) → Judges base (resource_tables rows) it → IsFor base db (by_judged it)
+altered_read base db rows Sound is sound = altered_foreign base db rows is (λ id valid. sound_holds base (resource_tables rows) id valid sound)
+altered_read base db rows (DamagedAt id) is least = (
+  record { rows = rows; read = altered_rows db rows is; least = least },
+  λ store sound stands. altered_stand base db rows is store stands,
+)
+altered_read base db rows ForeignRows is foreign = altered_foreign base db rows is foreign.holds
 
 -- ---- all rows
 

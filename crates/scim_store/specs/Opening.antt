@@ -9,7 +9,7 @@ use Rattle.scim_cell.specs.Ids.{IsId}
 use Rattle.scim_store_tables.specs.Tables.{no_schema}
 use Rattle.scim_store_tables.specs.Lists.{Are}
 use Rattle.scim_store_tables.specs.Reading.{shown}
-use Rattle.scim_store_tables.specs.Whole.{AreRowsOf, Is, IsUntouched}
+use Rattle.scim_store_tables.specs.Whole.{AreRowsOf, HasFurtherSettings, Is, IsUntouched}
 use Rattle.scim_store_tables.specs.declared.database_kinds.TableRows.{TableRows}
 use Rattle.scim_store_tables.specs.declared.database_kinds.DatabaseKind.TheVariants.{WrongVersion as OtherVersion, Foreign as OtherProgram}
 use Rattle.scim_store.specs.declared.examining.Examined.{Examined}
@@ -17,6 +17,8 @@ use Rattle.scim_store.specs.declared.examining.Examined.TheVariants.{Empty, Stan
 use Rattle.scim_store_rows.specs.Audit.{audit_rows}
 use Rattle.scim_store_rows.specs.AuditBack.{IsSound}
 use Rattle.scim_store.specs.Damage.{Tables, HoldsAt, IsLeastDamage}
+use Rattle.scim_store.specs.declared.damage.Judged.{Judged}
+use Rattle.scim_store.specs.declared.damage.Judged.TheVariants.{Sound, Damaged as DamagedAt, Foreign as ForeignRows}
 use Rattle.scim_store_rows.specs.Stands.{StandsFor}
 
 -- The tables hold no valid store with valid audit rows.
@@ -33,10 +35,10 @@ pub record IsDamagedAt (base : List ℕ) (db : Database) (id : List ℕ) : Type 
   pub read : AreRowsOf (shown db) rows
   pub least : IsLeastDamage base (resource_tables rows) id
 
--- The database has the tables of version 1, and each id has no rows, or exactly the rows of one valid
--- resource.
+-- The database has the tables of version 1, perhaps with further rows of `setting`, and each id has no rows, or
+-- exactly the rows of one valid resource.
 pub record HoldsAtEach (base : List ℕ) (db : Database) : Type 0 where
-  pub tables : Are db (shown db)
+  pub tables : Are db (shown db) ⊎ HasFurtherSettings db
   pub rows : TableRows
   pub read : AreRowsOf (shown db) rows
   pub holds : (id : List ℕ) → IsId id → HoldsAt base (resource_tables rows) id
@@ -51,6 +53,12 @@ abbrev pub IsByAudit : List Row → Examined → Type 0
 IsByAudit rows (Stands count) = CountsAudit rows (Some count)
 IsByAudit rows Foreign = CountsAudit rows None
 IsByAudit rows _ = ⊥
+
+-- The result for tables with further rows of `setting`, by the rows of resources.
+abbrev pub by_judged : Judged → Examined
+by_judged Sound = Foreign
+by_judged (DamagedAt id) = Damaged id
+by_judged ForeignRows = Foreign
 
 -- The meaning of a result for a store of resources with locations below the base URI. `Empty`: the database
 -- is empty. `Stands`: the tables hold a valid store with this many audit rows, all valid. `WrongVersion`: the

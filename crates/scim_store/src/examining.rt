@@ -9,7 +9,8 @@ ghost use Rattle.sqlite.specs.View.{doubt};
 ghost use Rattle.sqlite.specs.Held.{state};
 ghost use Rattle.scim_store_tables.specs.Lists.{Are};
 ghost use Rattle.scim_store_tables.specs.Reading.{Rests, shown};
-ghost use Rattle.scim_store_tables.specs.Whole.{AreRowsOf};
+ghost use Rattle.scim_store_tables.specs.Whole.{AreRowsOf, Is};
+ghost use Rattle.scim_store_tables.specs.declared.database_kinds.DatabaseKind.{DatabaseKind};
 ghost use Rattle.scim_store.specs.Damage.{AreOrdered, Judges};
 ghost use Rattle.scim_store.specs.Opening as spec;
 
@@ -96,6 +97,37 @@ fn examine_rows(alloc: Global, base: &str, rows: TableRows) -> Result<Examined, 
     }
 }
 
+/// Examines the rows of tables with further rows of `setting`. Returns the least id with invalid rows, or
+/// `Foreign` if the rows of each id are valid. Fails only with `OutOfMemory`, if memory runs out.
+fn examine_altered(alloc: Global, base: &str, rows: TableRows) -> Result<Examined, Error>
+    ensures examined { IfOk result (λ it. (db : Database) → Is db (DatabaseKind.Altered rows)
+        → spec.IsFor base.now db it) }
+    ensures memory { IfErr result (λ e. e ≡ Error.SqliteFailure ErrorCode.OutOfMemory) }
+{
+    let TableRows {
+        resources,
+        names,
+        members,
+        audit: _audit,
+    } = rows;
+    let tables = ResourceRows {
+        resources,
+        names,
+        members,
+    };
+    Ok(of_altered(judge_resources(alloc, base, &tables)?))
+}
+
+/// Returns the result for tables with further rows of `setting`, whose rows of resources have this result.
+fn of_altered(judged: Judged) -> Examined
+    ensures { result ≡ spec.by_judged judged }
+{
+    match judged {
+        Judged::Damaged(id) => Examined::Damaged(id),
+        Judged::Sound | Judged::Foreign => Examined::Foreign,
+    }
+}
+
 /// Examines a database as a store of resources with locations below the base URI. Reads all rows, in time
 /// nearly linear in their number.
 ///
@@ -119,6 +151,7 @@ pub(crate) fn examine<S: Alter>(
         DatabaseKind::Empty => Ok(Examined::Empty),
         DatabaseKind::WrongVersion => Ok(Examined::WrongVersion),
         DatabaseKind::Foreign => Ok(Examined::Foreign),
+        DatabaseKind::Altered(rows) => examine_altered(alloc, base, rows),
         DatabaseKind::Tables(rows) => examine_rows(alloc, base, rows),
     }
 }

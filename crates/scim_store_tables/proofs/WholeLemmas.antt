@@ -9,10 +9,10 @@ use Rattle.sqlite.specs.State.{State, IsUnchanged}
 use Rattle.scim_store_tables.specs.Tables.{store_schema}
 use Rattle.scim_store_tables.specs.Lists.{Lists, Are, version_values, pair, triple}
 use Rattle.scim_store_tables.specs.Reading.{shown, shown_settings, owner_first, group_first}
-use Rattle.scim_store_tables.specs.Whole.{NamesVersion, HasVersion, AreAllKeyed, AreInOrder, AreRowsOf, IsByRows, IsReading, Is, AreNone}
+use Rattle.scim_store_tables.specs.Whole.{NamesVersion, HasFurtherSettings, HasVersion, AreAllKeyed, AreInOrder, AreRowsOf, IsByRows, IsReading, Is, AreNone}
 use Rattle.scim_store_tables.specs.declared.database_kinds.TableRows.{TableRows}
 use Rattle.scim_store_tables.specs.declared.database_kinds.DatabaseKind.{DatabaseKind}
-use Rattle.scim_store_tables.specs.declared.database_kinds.DatabaseKind.TheVariants.{WrongVersion, Foreign}
+use Rattle.scim_store_tables.specs.declared.database_kinds.DatabaseKind.TheVariants.{WrongVersion, Foreign, Altered}
 
 -- ---- the settings
 
@@ -64,8 +64,11 @@ none_of_others db other lists are = other are.schema
 none_of_version : (db : Database) → ¬ NamesVersion db → AreNone db
 none_of_version db other lists are = other (Contains-permutation _ _ version_values (IsPermutation-sym _ _ are.version.same) (0, omega arith, refl))
 
-none_of_foreign : (db : Database) → ¬ (HasVersion db × AreAllKeyed db) → AreNone db
-none_of_foreign db other lists are = other (are.version.same, record { settings = are.version.keys; resources = are.resources.keys; names = are.taken.keys; members = are.member.keys })
+none_of_foreign : (db : Database) → ¬ AreAllKeyed db → AreNone db
+none_of_foreign db other lists are = other (record { settings = are.version.keys; resources = are.resources.keys; names = are.taken.keys; members = are.member.keys })
+
+none_of_altered : (db : Database) → ¬ HasVersion db → AreNone db
+none_of_altered db other lists are = other are.version.same
 
 -- a database of another version has none of our rows
 pub other_none : (db : Database) → Is db WrongVersion → AreNone db
@@ -76,6 +79,21 @@ other_none db (inr is) = none_of_version db is.1
 pub foreign_none : (db : Database) → Is db Foreign → AreNone db
 foreign_none db (inl is) = none_of_others db is.0
 foreign_none db (inr is) = none_of_foreign db is.1.1
+
+-- nor has one with further rows of `setting`
+pub altered_none : (db : Database) (rows : TableRows) → Is db (Altered rows) → AreNone db
+altered_none db rows (inl is) = none_of_others db is.0
+altered_none db rows (inr is) = none_of_altered db is.1.0.1
+
+pub altered_rows : (db : Database) (rows : TableRows) → Is db (Altered rows) → AreRowsOf (shown db) rows
+altered_rows db rows (inl (other, inl by)) = absurd by.1
+altered_rows db rows (inl (other, inr by)) = absurd by.1
+altered_rows db rows (inr is) = is.1.1
+
+pub altered_further : (db : Database) (rows : TableRows) → Is db (Altered rows) → HasFurtherSettings db
+altered_further db rows (inl (other, inl by)) = absurd by.1
+altered_further db rows (inl (other, inr by)) = absurd by.1
+altered_further db rows (inr is) = is.1.0
 
 -- ---- rows and lists
 

@@ -12,7 +12,7 @@ use Rattle.scim_store_tables.specs.Looking.{NamesOne, NamesNotOne}
 use Rattle.scim_store_tables.specs.Reading.{DoNotFall, shown, shown_settings, owner_first, group_first}
 use Rattle.scim_store_tables.specs.declared.database_kinds.TableRows.{TableRows}
 use Rattle.scim_store_tables.specs.declared.database_kinds.DatabaseKind.{DatabaseKind}
-use Rattle.scim_store_tables.specs.declared.database_kinds.DatabaseKind.TheVariants.{Empty, WrongVersion, Foreign, Tables}
+use Rattle.scim_store_tables.specs.declared.database_kinds.DatabaseKind.TheVariants.{Empty, WrongVersion, Foreign, Altered, Tables}
 
 -- ---- classification by table names
 
@@ -37,6 +37,10 @@ NamesVersion db = Contains (shown_settings db) version_values
 -- The table `setting` has exactly one row, which says that the tables have version 1.
 abbrev pub HasVersion : Database → Type 0
 HasVersion db = IsPermutation (shown_settings db) (version_values ∷ [])
+
+-- The table `setting` has the row of version 1 and other rows.
+abbrev pub HasFurtherSettings : Database → Type 0
+HasFurtherSettings db = NamesVersion db × (¬ HasVersion db)
 
 -- In each table except `audit` every row has a key, and no key occurs twice.
 pub record AreAllKeyed (db : Database) : Type 0 where
@@ -71,6 +75,7 @@ abbrev pub IsByNames : Schema → DatabaseKind → Type 0
 IsByNames schema Empty = schema ≡ no_schema
 IsByNames schema WrongVersion = (schema ≢ no_schema) × (has_another schema ≡ true)
 IsByNames schema Foreign = (schema ≢ no_schema) × (has_another schema ≡ false)
+IsByNames schema (Altered rows) = ⊥
 IsByNames schema (Tables rows) = ⊥
 
 -- The classification of a database with a table `setting`, by the version that it names: `Foreign` if that is
@@ -79,6 +84,7 @@ abbrev pub IsBySetting : Database → DatabaseKind → Type 0
 IsBySetting db Empty = ⊥
 IsBySetting db WrongVersion = NamesNotOne db
 IsBySetting db Foreign = NamesOne db
+IsBySetting db (Altered rows) = ⊥
 IsBySetting db (Tables rows) = ⊥
 
 -- The classification of a database whose schema isn't the schema of version 1.
@@ -86,12 +92,13 @@ abbrev pub IsOther : Database → DatabaseKind → Type 0
 IsOther db reading = ((has_setting db.schema ≡ true) × IsBySetting db reading) ⊎ ((has_setting db.schema ≡ false) × IsByNames db.schema reading)
 
 -- The classification by rows of a database with the five tables: `WrongVersion` if `setting` doesn't have the
--- row of version 1; `Foreign` if it has that row and others, or if a row has no key or a key occurs twice,
--- which never happens in a valid file; and `Tables` with the rows otherwise.
+-- row of version 1; `Foreign` if a row has no key or a key occurs twice, which never happens in a valid file;
+-- `Altered` with the rows of the other tables if `setting` has further rows; and `Tables` with them otherwise.
 abbrev pub IsByRows : Database → DatabaseKind → Type 0
 IsByRows db Empty = ⊥
 IsByRows db WrongVersion = ¬ NamesVersion db
-IsByRows db Foreign = NamesVersion db × (¬ (HasVersion db × AreAllKeyed db))
+IsByRows db Foreign = NamesVersion db × (¬ AreAllKeyed db)
+IsByRows db (Altered rows) = HasFurtherSettings db × AreRowsOf (shown db) rows
 IsByRows db (Tables rows) = Are db (shown db) × AreRowsOf (shown db) rows
 
 -- The classification of a database: by rows if it has the schema of version 1.

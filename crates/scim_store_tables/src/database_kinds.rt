@@ -45,6 +45,8 @@ pub enum DatabaseKind {
     WrongVersion,
     /// It belongs to another program, was changed by one, or is damaged.
     Foreign,
+    /// It has the tables of version 1, but `setting` has further rows. The other tables have these rows.
+    Altered(TableRows),
     /// It has the tables of version 1, with these rows.
     Tables(TableRows),
 }
@@ -260,13 +262,13 @@ fn reading_by_rows<S: Alter>(conn: &mut Connection<S>) -> Result<DatabaseKind, E
     if !names_version(settings.as_slice())? {
         return Ok(DatabaseKind::WrongVersion);
     }
-    if settings.len() != 1 {
-        return Ok(DatabaseKind::Foreign);
-    }
     if !are_all_keyed(conn)? {
         return Ok(DatabaseKind::Foreign);
     }
     let rows = read_all_rows(conn)?;
+    if settings.len() != 1 {
+        return Ok(DatabaseKind::Altered(rows));
+    }
     Ok(DatabaseKind::Tables(rows))
 }
 
@@ -274,8 +276,8 @@ fn reading_by_rows<S: Alter>(conn: &mut Connection<S>) -> Result<DatabaseKind, E
 /// `Empty`, `WrongVersion` or `Foreign`.
 ///
 /// A database without tables, indexes and views is `Empty`. A database with the schema of version 1 is
-/// `WrongVersion` if `setting` doesn't have the row of version 1, and `Foreign` if it has that row and others,
-/// or if a key occurs twice, which never happens in a valid file.
+/// `WrongVersion` if `setting` doesn't have the row of version 1; else `Foreign` if a key occurs twice, which
+/// never happens in a valid file; and else `Altered` if `setting` has further rows.
 ///
 /// A database of another schema with a table `setting` is `Foreign` if the query of `number` for the name
 /// `version` returns 1 first: the file says version 1, but version 1 has another schema. It is `WrongVersion`

@@ -14,16 +14,6 @@ returns-then-not-branch g c =
     let lacks = subst (λ xs. ¬ Contains xs version_values) c.as_slice.ensures.value (c.in_ok-names_version.ensures.no fails) in
     told_as _ _ old (state g.S.Store c.read_rows.new.conn) rows _ c.in_ok-settings.ensures (λ schema are. version_lacking old.now rows.items are lacks)
 
-pub returns-then-len-ne1 : goal.returns-then-len-ne1
-returns-then-len-ne1 g c =
-    let old = state g.S.Store c.args.conn.now in
-    let rows = c.in_ok-settings.settings in
-    let names : c.in_ok-names_version.field-0 ≡ true = search rules in
-    let has = subst (λ xs. Contains xs version_values) c.as_slice.ensures.value (c.in_ok-names_version.ensures.yes names) in
-    let more : length rows.items ≢ 1 = search rules in
-    told_as _ _ old (state g.S.Store c.read_rows.new.conn) rows _ c.in_ok-settings.ensures
-    (λ schema are. (version_named old.now rows.items are has, λ both. version_among old.now rows.items are more both.0))
-
 pub returns-in_err-are_all_keyed : goal.returns-in_err-are_all_keyed
 returns-in_err-are_all_keyed g c =
     let old = state g.S.Store c.args.conn.now in
@@ -42,7 +32,7 @@ returns-then-not-branch-2 g c =
     let has = subst (λ xs. Contains xs version_values) c.as_slice.ensures.value (c.in_ok-names_version.ensures.yes names) in
     let fails : c.in_ok-are_all_keyed.field-0 ≡ false = search rules in
     told_as _ _ old b c.in_ok-are_all_keyed.field-0 _ (told_both _ _ old a b rows _ c.in_ok-settings.ensures c.in_ok-are_all_keyed.ensures)
-    (λ schema all. (version_named old.now rows.items all.0 has, λ both. all.1.no fails both.1))
+    (λ schema all. (version_named old.now rows.items all.0 has, all.1.no fails))
 
 pub returns-in_err-rows : goal.returns-in_err-rows
 returns-in_err-rows g c =
@@ -52,6 +42,20 @@ returns-in_err-rows g c =
     let new = state g.S.Store c.read_all_rows.new.conn in
     told_failed _ _ old new c.in_err-rows.field-0.0 c.from_residual-in_err-rows.result c.from_residual-in_err-rows.ensures.0
     (told_both _ _ old a new _ _ c.in_ok-settings.ensures (told_both _ _ a b new _ _ c.in_ok-are_all_keyed.ensures c.in_err-rows.ensures))
+
+pub returns-then-len-ne1 : goal.returns-then-len-ne1
+returns-then-len-ne1 g c =
+    let old = state g.S.Store c.args.conn.now in
+    let a = state g.S.Store c.read_rows.new.conn in
+    let b = state g.S.Store c.are_all_keyed.new.conn in
+    let new = state g.S.Store c.read_all_rows.new.conn in
+    let settings = c.in_ok-settings.settings in
+    let names : c.in_ok-names_version.field-0 ≡ true = search rules in
+    let has = subst (λ xs. Contains xs version_values) c.as_slice.ensures.value (c.in_ok-names_version.ensures.yes names) in
+    let more : length settings.items ≢ 1 = search rules in
+    told_as _ _ old new c.in_ok-rows.rows _
+    (told_both _ _ old a new settings _ c.in_ok-settings.ensures (told_both _ _ a b new _ _ c.in_ok-are_all_keyed.ensures c.in_ok-rows.ensures))
+    (λ schema all. ((version_named old.now settings.items all.0 has, version_among old.now settings.items all.0 more), all.1.1))
 
 pub returns : goal.returns
 returns g c =
