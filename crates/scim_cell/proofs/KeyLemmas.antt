@@ -6,11 +6,11 @@ use Rattle.std.specs.Option.{option_eq}
 use Rattle.std.specs.Str.{bytes_eq}
 use Rattle.std.specs.Bool.{one_answer}
 use Rattle.std.specs.declared.alloc.Global.{Global}
-use Rattle.std.specs.HashMap.{Updates, get_by_text}
-use Rattle.std.specs.String.{string_eq}
+use Rattle.std.specs.BTreeMap.{Updates, get_by_text}
+use Rattle.std.specs.String.{string_cmp}
 use Rattle.std.proofs.lemmas.Slice.Eq.{bytes_eq-Decides}
 use Rattle.std.proofs.lemmas.List.Folds.{list_any-append}
-use Rattle.std.proofs.lemmas.Map.Text.{hash_map_updates_text}
+use Rattle.std.proofs.lemmas.Map.Text.{btree_map_updates_text}
 use Rattle.scim_schema.specs.declared.Attribute.{Attribute}
 use Rattle.scim_cell.specs.declared.atoms.Atom.{Atom}
 use Rattle.scim_cell.specs.Atoms.{is_same_atom, is_same_atom-Decides}
@@ -72,11 +72,11 @@ one_more false i found false h = h
 -- one value more, and its key
 pub covers_push : (m n : Places) (key : String Global) (i : ℕ) (a : Attribute) (rs : List Row) (r : Row)
     → string_bytes key ≡ key_of a r
-    → Updates string_eq m n key (Some i)
+    → Updates string_cmp m n key (Some i)
     → Covers m a rs
     → Covers n a (rs ++ r ∷ [])
 covers_push m n key i a rs r k updates covered q =
-    ap is_some (hash_map_updates_text (string_bytes key) m n (Some i) updates q)
+    ap is_some (btree_map_updates_text (string_bytes key) m n (Some i) updates q)
     ∙ ap (λ bs. is_some (cond (bytes_eq bs q) (Some i) (get_by_text m q))) k
     ∙ ap (λ b. is_some (cond b (Some i) (get_by_text m q))) (symmetric (key_of a r) q)
     ∙ one_more (bytes_eq q (key_of a r)) i (get_by_text m q) _ (covered q)

@@ -10,7 +10,7 @@ use crate::same_values::{has_same_among, is_same_value};
 use scim_schema::Attribute;
 use scim_text::{NoMemory, push};
 use std::alloc::Global;
-use std::collections::HashMap;
+use std::collections::BTreeMap;
 
 /// The largest number of given values that `with_values` compares with each value of the list. If more
 /// values are given, it finds equal values by keys, which needs a temporary text for each value.
@@ -61,7 +61,7 @@ fn with_many(
 ) -> Result<Vec<Row>, NoMemory>
     ensures { IfOk result (λ v. v.items ≡ spec.with_values attribute values.items given.items) }
 {
-    let mut places = places_of(alloc, attribute, values.as_slice(), given.len())?;
+    let mut places = places_of(alloc, attribute, values.as_slice())?;
     values.reserve(given.len())?;
     for value in given {
         add_value(alloc, attribute, &mut values, &mut places, value)?;
@@ -70,16 +70,15 @@ fn with_many(
 }
 
 /// Returns a map from the key of each value to its index. If several values have the same key, the map
-/// contains the last index. The map has room for `more` further keys.
+/// contains the last index. The map is ordered, so no choice of values makes a look-up slow.
 fn places_of(
     alloc: Global,
     attribute: Attribute,
     values: &[Row],
-    more: usize,
-) -> Result<HashMap<String, usize>, NoMemory>
+) -> Result<BTreeMap<String, usize>, NoMemory>
     ensures { IfOk result (λ m. Covers m attribute values.now) }
 {
-    let mut places = HashMap::with_capacity(alloc, values.len().saturating_add(more))?;
+    let mut places = BTreeMap::new(alloc);
     for (place, value) in values.iter().enumerate() {
         let _ = places.insert(key(alloc, attribute, value)?, place)?;
     }
@@ -102,7 +101,7 @@ fn add_value(
     alloc: Global,
     attribute: Attribute,
     values: &mut Vec<Row>,
-    places: &mut HashMap<String, usize>,
+    places: &mut BTreeMap<String, usize>,
     value: Row,
 ) -> Result<(), NoMemory>
     requires { Covers places.old attribute values.old.items }

@@ -51,7 +51,7 @@ pub enum Op {
 /// An attribute of a user (RFC 7643 sections 3.1, 4.1 and 4.3) or a group (sections 3.1 and 4.2).
 ///
 /// An attribute of both users and groups, such as `id`, has a single variant.
-#[derive(Clone, Copy, Debug, PartialEq, Eq, Hash)]
+#[derive(Clone, Copy, Debug, PartialEq, Eq, PartialOrd, Ord, Hash)]
 pub enum Attribute {
     Id,
     ExternalId,
@@ -87,7 +87,7 @@ pub enum Attribute {
 }
 
 /// A sub-attribute: a named part of a complex attribute's value (RFC 7643 sections 2.3.8 and 2.4).
-#[derive(Clone, Copy, Debug, PartialEq, Eq, Hash)]
+#[derive(Clone, Copy, Debug, PartialEq, Eq, PartialOrd, Ord, Hash)]
 pub enum SubAttribute {
     Formatted,
     FamilyName,
@@ -118,7 +118,7 @@ pub enum SubAttribute {
 /// simple value at one leaf.
 ///
 /// Not every pair of an attribute and a sub-attribute is a leaf of a kind: see [`has_leaf`].
-#[derive(Clone, Copy, PartialEq, Eq, Hash)]
+#[derive(Clone, Copy, PartialEq, Eq, PartialOrd, Ord, Hash)]
 pub struct Leaf {
     pub attribute: Attribute,
     /// `None` for a simple attribute.

@@ -14,7 +14,7 @@ use std::alloc::Global;
 
 /// A value that at most one resource may have, such as a `userName`: the leaf, and the text that comparisons
 /// use. The text is folded unless the attribute is caseExact.
-#[derive(PartialEq, Eq, Hash)]
+#[derive(PartialEq, Eq, PartialOrd, Ord)]
 pub struct UniqueName {
     pub leaf: Leaf,
     pub text: String,

@@ -3,9 +3,7 @@ use Rattle.std.specs.Prelude.{ℕ, ◌≡◌, String, List, [], ◌++◌, Option
 use Rattle.std.specs.List.{list_any, flat_map}
 use Rattle.std.specs.Str.{bytes_eq}
 use Rattle.std.specs.declared.alloc.Global.{Global}
-use Rattle.std.specs.declared.hash.BuildHasherDefault.{BuildHasherDefault}
-use Rattle.std.specs.declared.hash.FoldHasher.{FoldHasher}
-use Rattle.std.specs.HashMap.{HashMap, get_by_text}
+use Rattle.std.specs.BTreeMap.{BTreeMap, get_by_text}
 use Rattle.scim_schema.specs.declared.Attribute.{Attribute}
 use Rattle.scim_schema.specs.declared.SubAttribute.{SubAttribute}
 use Rattle.scim_schema.specs.Names.{sub_attribute_name}
@@ -47,7 +45,7 @@ key_of a r = if is_members a then some_key (member_value r) else fields_key r.fi
 
 -- a map from keys to indexes
 abbrev pub Places : Type 0
-Places = HashMap (String Global) ℕ (BuildHasherDefault FoldHasher)
+Places = BTreeMap (String Global) ℕ
 
 -- the map contains a key exactly if one of the values has this key
 abbrev pub Covers : Places → Attribute → List Row → Type 0

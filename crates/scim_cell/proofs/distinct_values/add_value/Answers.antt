@@ -2,7 +2,7 @@ use Rattle.std.proofs.Common.{rules, ◌≡◌, sym, ◌∙◌, ap, false}
 use Rattle.std.specs.Prelude.{is_some, string_bytes}
 use Rattle.std.specs.List.{list_any}
 use Rattle.std.specs.Str.{bytes_eq}
-use Rattle.std.specs.HashMap.{get_by_text}
+use Rattle.std.specs.BTreeMap.{get_by_text}
 use Rattle.scim_cell.specs.SameValues.{is_same_value}
 use Rattle.scim_cell.specs.code.Keys.{key_of}
 use Rattle.scim_cell.proofs.KeyLemmas.{covers_push, none_same, with_value_other}
