@@ -2,7 +2,7 @@
 use Rattle.std.proofs.Common.{◌≡◌, ◌<◌, Bool, true, false, cond, List, [], ◌∷◌, ◌++◌, ℕ, zero, suc, map, length, inl, inr, refl, sym, ap, subst, ◌∙◌, arith}
 use Rattle.std.specs.Prelude.{◌↔◌, ◌⊎◌, ◌||◌, string_bytes, slice_index_or, Contains, Any, All, IsTrue, Decides}
 use Rattle.std.specs.List.{list_any}
-use Rattle.std.specs.HashSet.{contains}
+use Rattle.std.specs.BTreeSet.{contains}
 use Rattle.std.proofs.lemmas.Bool.{or_cases, or_left, or_right, both_ways, iff_false}
 use Rattle.std.proofs.lemmas.Bool.Decides.{Decides-and, Decides-like}
 use Rattle.std.proofs.lemmas.List.{length-map, get_or-map, get_or_default}
@@ -10,23 +10,26 @@ use Rattle.std.proofs.lemmas.List.Elements.{All-contains, Contains-append_left, 
 use Rattle.std.proofs.lemmas.List.Folds.{Any-from_list_any, list_any_at}
 use Rattle.std.proofs.lemmas.List.Quantifiers.{Any-push}
 use Rattle.std.proofs.lemmas.Slice.Eq.{bytes_eq-Decides}
+use Rattle.std.proofs.lemmas.Map.Text.{is_eq-slice_cmp}
 use Rattle.scim_schema.proofs.Facts.{is_same_leaf-Decides}
 use Rattle.scim_value.specs.declared.uniqueness.UniqueName.{UniqueName}
 use Rattle.scim_cell.specs.Content.{Content}
 use Rattle.scim_value.specs.Uniqueness.{Name, unique_names, AreApart, name_of}
 use Rattle.scim_json.specs.declared.users_files.Taken.{Taken}
-use Rattle.scim_cell.specs.Equality.{is_same_id}
-use Rattle.scim_json.specs.code.Taken.{is_same_unique_name, Records}
+use Rattle.scim_value.specs.contracts.uniqueness.UniqueNamePartialEq.TheImpl as name_eq
+use Rattle.scim_value.specs.contracts.uniqueness.UniqueNameOrd.TheImpl.Laws.{matches_eq-law}
+use Rattle.scim_json.specs.code.Taken.{id_cmp, name_cmp, is_same_id, is_same_unique_name, Records}
 
 -- two ids compare equal where they are one
 pub is_same_id-Decides : (a b : List ℕ) → Decides (is_same_id a b) (a ≡ b)
-is_same_id-Decides a b = bytes_eq-Decides a b
+is_same_id-Decides a b = rw (is_eq-slice_cmp a b) (bytes_eq-Decides a b)
 
 -- two names compare equal where they are one
 pub is_same_unique_name-Decides : (m n : UniqueName) → Decides (is_same_unique_name m n) (name_of m ≡ name_of n)
 is_same_unique_name-Decides m n =
-    Decides-like (is_same_unique_name m n) (λ w i. record { leaf = w.0 i; text = w.1 i }) (λ e. (ap (λ (a : Name). a.leaf) e, ap (λ (a : Name). a.text) e))
-    (Decides-and _ _ (is_same_leaf-Decides m.leaf n.leaf) (bytes_eq-Decides (string_bytes m.text) (string_bytes n.text)))
+    subst (λ (b : Bool). Decides b (name_of m ≡ name_of n)) (matches_eq-law m n)
+    (Decides-like ((name_eq.ghosts).eq m n) (λ w i. record { leaf = w.0 i; text = w.1 i }) (λ e. (ap (λ (a : Name). a.leaf) e, ap (λ (a : Name). a.text) e))
+    (Decides-and _ _ (is_same_leaf-Decides m.leaf n.leaf) (bytes_eq-Decides (string_bytes m.text) (string_bytes n.text))))
 
 -- some name compares equal where it is among the names
 pub same_names-Decides : (q : UniqueName) (ns : List UniqueName) → Decides (list_any (is_same_unique_name q) ns) (Contains (map name_of ns) (name_of q))
@@ -74,15 +77,15 @@ one_more false false = refl
 
 module _ (taken : Taken) (cs : List Content) (kept : Records taken cs) (c : Content) (ns : List UniqueName) (named : map name_of ns ≡ unique_names c) where
   -- a name that is taken is one of theirs
-  pub clash : list_any (contains is_same_unique_name taken.names) ns ≡ true → All (λ b. AreApart b c) cs → ⊥
+  pub clash : list_any (contains name_cmp taken.names) ns ≡ true → All (λ b. AreApart b c) cs → ⊥
   clash e apart =
-      let w = Any-from_list_any (contains is_same_unique_name taken.names) ns e in
+      let w = Any-from_list_any (contains name_cmp taken.names) ns e in
       let b = (kept.names w.1).0 w.4 in
       let own : Contains (unique_names c) (name_of w.1) = subst (λ (l : List Name). Contains l (name_of w.1)) named (Contains-map name_of ns w.1 (w.0, w.2, w.3)) in
       (All-contains (λ b. AreApart b c) cs b.1 apart (b.0, b.2, b.3)).names (name_of w.1) b.4 own
 
   -- an id and names that are free are none of theirs
-  pub free : list_any (contains is_same_unique_name taken.names) ns ≡ false → contains is_same_id taken.ids c.id ≡ false → All (λ b. AreApart b c) cs
+  pub free : list_any (contains name_cmp taken.names) ns ≡ false → contains id_cmp taken.ids c.id ≡ false → All (λ b. AreApart b c) cs
   free no_name no_id k d short =
       let b = slice_index_or cs k d in
       let there : slice_index_or cs k b ≡ b = get_or_default cs k b d short in
@@ -90,13 +93,13 @@ module _ (taken : Taken) (cs : List Content) (kept : Records taken cs) (c : Cont
         ids = λ e. iff_false (kept.ids c.id) no_id (k, b, short, there, e);
         names = λ n its own.
             let w = Any-from_map name_of ns n (subst (λ (l : List Name). Contains l n) (sym named) own) in
-            let is : contains is_same_unique_name taken.names w.1 ≡ true = (kept.names w.1).1 (k, b, short, there, subst (λ (m : Name). Contains (unique_names b) m) (sym w.4) its) in
-            both_ways _ no_name (list_any_at (contains is_same_unique_name taken.names) ns w.0 w.1 w.2 (rw w.3 is));
+            let is : contains name_cmp taken.names w.1 ≡ true = (kept.names w.1).1 (k, b, short, there, subst (λ (m : Name). Contains (unique_names b) m) (sym w.4) its) in
+            both_ways _ no_name (list_any_at (contains name_cmp taken.names) ns w.0 w.1 w.2 (rw w.3 is));
       }
 
   -- with its id and its names, what is taken is that of one resource more
-  pub added : (new : Taken) → ((id : List ℕ) → contains is_same_id new.ids id ≡ cond (is_same_id c.id id) true (contains is_same_id taken.ids id))
-      → ((n : UniqueName) → contains is_same_unique_name new.names n ≡ (contains is_same_unique_name taken.names n || list_any (is_same_unique_name n) ns)) → Records new (cs ++ c ∷ [])
+  pub added : (new : Taken) → ((id : List ℕ) → contains id_cmp new.ids id ≡ cond (is_same_id c.id id) true (contains id_cmp taken.ids id))
+      → ((n : UniqueName) → contains name_cmp new.names n ≡ (contains name_cmp taken.names n || list_any (is_same_unique_name n) ns)) → Records new (cs ++ c ∷ [])
   added new ids names = record {
     ids = λ id. more (λ b. b.id ≡ id) cs c _ (is_same_id c.id id) _ (kept.ids id) (is_same_id-Decides c.id id) (ids id ∙ one_more _ (is_same_id c.id id));
     names = λ n.

@@ -24,7 +24,7 @@ use scim_text::{Failed, NoMemory, push};
 use scim_value::{Resource, UniqueName, unique_names};
 use serde_json::Value;
 use std::alloc::Global;
-use std::collections::HashSet;
+use std::collections::BTreeSet;
 
 /// The maximum nesting depth of an item, one less than the maximum depth of the whole text.
 const ITEM_DEPTH: usize = 126;
@@ -32,8 +32,8 @@ const ITEM_DEPTH: usize = 126;
 /// The ids and unique names of the resources read so far. No later resource may repeat one of them.
 #[derive(Drop)]
 struct Taken {
-    ids: HashSet<Id>,
-    names: HashSet<UniqueName>,
+    ids: BTreeSet<Id>,
+    names: BTreeSet<UniqueName>,
 }
 
 /// Reads a users file: a JSON list of stored documents of resources below `base`. Returns the
@@ -212,8 +212,8 @@ impl Taken {
         ensures { Records result [] }
     {
         Taken {
-            ids: HashSet::new(alloc),
-            names: HashSet::new(alloc),
+            ids: BTreeSet::new(alloc),
+            names: BTreeSet::new(alloc),
         }
     }
 

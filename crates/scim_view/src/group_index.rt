@@ -19,7 +19,7 @@ use scim_schema::{Attribute, Leaf, SubAttribute, Unit};
 use scim_text::{NoMemory, push};
 use scim_value::Resource;
 use std::alloc::Global;
-use std::collections::HashMap;
+use std::collections::BTreeMap;
 
 /// An index of the groups that a client sees, by the ids of the members that the client sees in each group.
 ///
@@ -30,7 +30,7 @@ pub struct GroupIndex {
     groups: Vec<SeenGroup>,
     /// For each id, the distinct positions, in ascending order, of the groups in `groups` in which the client
     /// sees the id as a member.
-    by_member: HashMap<Id, Vec<usize>>,
+    by_member: BTreeMap<Id, Vec<usize>>,
 }
 
 impl GroupIndex {
@@ -40,7 +40,7 @@ impl GroupIndex {
     {
         GroupIndex {
             groups: Vec::new(alloc),
-            by_member: HashMap::new(alloc),
+            by_member: BTreeMap::new(alloc),
         }
     }
 

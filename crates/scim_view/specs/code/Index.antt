@@ -3,7 +3,9 @@ use Rattle.std.specs.Prelude.{◌≡◌, ℕ, ◌+◌, ◌-◌, Bool, false, Lis
 use Rattle.std.specs.Global.{Vec}
 use Rattle.std.specs.List.{slice_get}
 use Rattle.std.specs.Option.{option_eq}
-use Rattle.std.specs.HashMap.{get}
+use Rattle.std.specs.BTreeMap.{get}
+use Rattle.std.specs.Ordering.{nat_cmp}
+use Rattle.std.specs.Cmp.Lexicographic.{slice_cmp}
 use Rattle.scim_schema.specs.declared.Attribute.TheVariants.{Members}
 use Rattle.scim_schema.specs.declared.SubAttribute.TheVariants.{Value}
 use Rattle.scim_schema.specs.Units.{leaf_at}
@@ -46,7 +48,7 @@ positions_in (Some ps) = ps.items
 
 -- the positions that the index has for an id
 abbrev pub positions_of : GroupIndex → List ℕ → List ℕ
-positions_of index id = positions_in (get is_same_id index.by_member id)
+positions_of index id = positions_in (get (slice_cmp nat_cmp) index.by_member id)
 
 -- the groups that the index has for an id
 abbrev pub groups_of : GroupIndex → List ℕ → List SeenGroup
