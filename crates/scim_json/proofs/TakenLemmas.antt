@@ -84,6 +84,12 @@ module _ (taken : Taken) (cs : List Content) (kept : Records taken cs) (c : Cont
       let own : Contains (unique_names c) (name_of w.1) = subst (λ (l : List Name). Contains l (name_of w.1)) named (Contains-map name_of ns w.1 (w.0, w.2, w.3)) in
       (All-contains (λ b. AreApart b c) cs b.1 apart (b.0, b.2, b.3)).names (name_of w.1) b.4 own
 
+  -- an id that is taken is one of theirs
+  pub id_clash : contains id_cmp taken.ids c.id ≡ true → All (λ b. AreApart b c) cs → ⊥
+  id_clash e apart =
+      let b = (kept.ids c.id).0 e in
+      (All-contains (λ b. AreApart b c) cs b.1 apart (b.0, b.2, b.3)).ids b.4
+
   -- an id and names that are free are none of theirs
   pub free : list_any (contains name_cmp taken.names) ns ≡ false → contains id_cmp taken.ids c.id ≡ false → All (λ b. AreApart b c) cs
   free no_name no_id k d short =

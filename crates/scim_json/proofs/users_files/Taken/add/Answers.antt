@@ -2,14 +2,14 @@ use Rattle.std.proofs.Common.{rules, ◌≡◌, ◌∙◌, sym, subst, false, tr
 use Rattle.std.specs.Prelude.{◌||◌}
 use Rattle.std.specs.List.{list_any}
 use Rattle.std.specs.BTreeSet.{contains}
-use Rattle.std.proofs.lemmas.Bool.{not-true}
+use Rattle.std.proofs.lemmas.Bool.{not-true, not-false}
 use Rattle.std.proofs.lemmas.List.{map-id}
 use Rattle.std.proofs.lemmas.Iterator.{YieldsList-from_slice}
 use Rattle.std.proofs.lemmas.Iterator.Adapters.{fact_from_extend, YieldsList-from_vec}
 use Rattle.std.proofs.lemmas.Iterator.Search.{any_from_yields_List}
 use Rattle.scim_value.specs.declared.uniqueness.UniqueName.{UniqueName}
 use Rattle.scim_json.specs.code.Taken.{id_cmp, name_cmp, is_same_id, is_same_unique_name}
-use Rattle.scim_json.proofs.TakenLemmas.{clash, free, added}
+use Rattle.scim_json.proofs.TakenLemmas.{clash, id_clash, free, added}
 use Rattle.scim_json.proofs.users_files.Taken.add.Goals as goal
 
 pub returns-then-any-clause-clash : goal.returns-then-any-clause-clash
@@ -19,6 +19,13 @@ returns-then-any-clause-clash c cs kept not_free =
     let some : c.any.result ≡ list_any (contains name_cmp old.names) ns =
     any_from_yields_List (contains name_cmp old.names) _ _ c.any.result c.any.ensures.ran (YieldsList-from_slice ns cc) (λ x b q k. search rules) in
     clash old cs kept c.args.resource.now ns c.in_ok-names.ensures (cc)
+
+pub returns-clause-clash : goal.returns-clause-clash
+returns-clause-clash c cs kept clashes =
+    let old = c.args.self.now in
+    let there : contains id_cmp old.ids c.args.resource.now.id ≡ true =
+    not-false _ (subst (λ (k : List ℕ). not (contains id_cmp old.ids k) ≡ false) c.id.ensures (sym c.in_ok-insert.ensures.added ∙ clashes)) in
+    id_clash old cs kept c.args.resource.now c.in_ok-names.names.items c.in_ok-names.ensures there
 
 pub returns-clause-free : goal.returns-clause-free
 returns-clause-free c cs kept is_free =
