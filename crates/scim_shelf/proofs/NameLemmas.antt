@@ -37,7 +37,7 @@ pub is_same_name-flips : (n m : Name) → is_same_name n m ≡ is_same_name m n
 is_same_name-flips n m = (decided is_same_name is_same_name-Decides).symm n m
 
 -- two resources that are apart don't both have a name
-apart_names : (n : Name) (c d : Content) → AreApart c d → has_name n c ≡ true → has_name n d ≡ false
+pub apart_names : (n : Name) (c d : Content) → AreApart c d → has_name n c ≡ true → has_name n d ≡ false
 apart_names n c d apart h =
     by_bool (has_name n d)
     (λ t. absurd (apart.names n ((is_member-Decides is_same_name-Decides (unique_names c) n).0 h) ((is_member-Decides is_same_name-Decides (unique_names d) n).0 t)))

@@ -3,24 +3,25 @@ use Rattle.std.proofs.Common.{◌≡◌, refl, sym, ◌∙◌, ap, subst, ℕ, B
 use Rattle.std.specs.Prelude.{nat_eq, Option, None, Some, IsSome, String}
 use Rattle.std.specs.declared.alloc.Global.{Global}
 use Rattle.std.specs.Str.{bytes_eq}
-use Rattle.std.specs.String.{string_eq, string_bytes}
-use Rattle.std.specs.Cmp.Lexicographic.{pointwise, bytes_decides, nat_list_eq_equiv}
+use Rattle.std.specs.Ordering.{nat_cmp}
+use Rattle.std.specs.String.{string_cmp, string_bytes}
+use Rattle.std.specs.Cmp.Lexicographic.{slice_cmp, pointwise, bytes_decides, nat_list_eq_equiv}
 use Rattle.std.specs.List.{list_any}
-use Rattle.std.specs.HashMap.{HashMap, UpdatesBy, get_by_text}
+use Rattle.std.specs.BTreeMap.{BTreeMap, UpdatesBy, get_by_text}
 use Rattle.std.proofs.lemmas.List.{take-append-drop}
 use Rattle.std.proofs.lemmas.List.Folds.{list_any-append}
-use Rattle.std.proofs.lemmas.Map.Text.{hash_map_updates_text, is_eq-slice_cmp}
+use Rattle.std.proofs.lemmas.Map.Text.{btree_map_updates_text, is_eq-slice_cmp}
 use Rattle.scim_shelf.specs.declared.members.Holders.{Holders}
 use Rattle.scim_shelf.specs.Members.{is_same, has_in, is_one_of}
 use Rattle.scim_shelf.proofs.NameLemmas.{by_bool}
 
 -- the notes, by value
-abbrev pub Notes : Type 0 → Type 0
-Notes S = HashMap (String Global) Holders S
+abbrev pub Notes : Type 0
+Notes = BTreeMap (String Global) Holders
 
 -- the notes under one value become these, and no others change
-abbrev pub ChangesAt : {S : Type 0} → List ℕ → Notes S → Notes S → Option Holders → Type 0
-ChangesAt value old new holders = UpdatesBy string_eq (λ k. bytes_eq value (string_bytes k)) old new holders
+abbrev pub ChangesAt : List ℕ → Notes → Notes → Option Holders → Type 0
+ChangesAt value old new holders = UpdatesBy string_cmp (λ k. slice_cmp nat_cmp value (string_bytes k)) old new holders
 
 -- what is found is there
 pub is_there : {X : Type 0} (o : Option X) (x : X) → Some x ≡ o → IsSome o
@@ -54,15 +55,15 @@ cond_in : (i : List ℕ) (test : Bool) (x y : Option Holders) → has_in i (cond
 cond_in i true x y = refl
 cond_in i false x y = refl
 
-module _ {S : Type 0} (value : List ℕ) where
-  changed : (old new : Notes S) (holders : Option Holders) → ChangesAt value old new holders → (v i : List ℕ)
+module _ (value : List ℕ) where
+  changed : (old new : Notes) (holders : Option Holders) → ChangesAt value old new holders → (v i : List ℕ)
       → has_in i (get_by_text new v) ≡ cond (pointwise nat_eq v value) (has_in i holders) (has_in i (get_by_text old v))
   changed old new holders h v i =
-      ap (has_in i) (hash_map_updates_text value old new holders h v) ∙ cond_in i (bytes_eq value v) holders (get_by_text old v)
+      ap (has_in i) (btree_map_updates_text value old new holders h v) ∙ cond_in i (bytes_eq value v) holders (get_by_text old v)
       ∙ ap (λ (b : Bool). cond b (has_in i holders) (has_in i (get_by_text old v))) (nat_list_eq_equiv.symm value v)
 
   -- what is noted under a value becomes this, and under no other value
-  settled : (old : Notes S) (found wanted : List ℕ → List ℕ → Bool) (v i : List ℕ)
+  settled : (old : Notes) (found wanted : List ℕ → List ℕ → Bool) (v i : List ℕ)
       → (found value i ≡ wanted value i)
       → cond (pointwise nat_eq v value) (found value i) (has_in i (get_by_text old v)) ≡ cond (pointwise nat_eq v value) (wanted v i) (has_in i (get_by_text old v))
   settled old found wanted v i is =
@@ -70,7 +71,7 @@ module _ {S : Type 0} (value : List ℕ) where
       (λ same. subst (λ (u : List ℕ). found value i ≡ wanted u i) (sym ((bytes_decides v value).0 same)) is)
 
   -- one id is noted under a value, or no more
-  pub one_changed : (id : List ℕ) (b : Bool) (old new : Notes S) (holders : Option Holders) → ChangesAt value old new holders
+  pub one_changed : (id : List ℕ) (b : Bool) (old new : Notes) (holders : Option Holders) → ChangesAt value old new holders
       → ((i : List ℕ) → has_in i holders ≡ cond (is_same id i) b (has_in i (get_by_text old value)))
       → (v i : List ℕ) → has_in i (get_by_text new v) ≡ cond (pointwise nat_eq v value && is_same id i) b (has_in i (get_by_text old v))
   one_changed id b old new holders h one v i =
@@ -79,7 +80,7 @@ module _ {S : Type 0} (value : List ℕ) where
       ∙ paired (pointwise nat_eq v value) (is_same id i) b (has_in i (get_by_text old v))
 
   -- the same ids are noted under a value
-  pub none_changed : (old new : Notes S) (holders : Option Holders) → ChangesAt value old new holders
+  pub none_changed : (old new : Notes) (holders : Option Holders) → ChangesAt value old new holders
       → ((i : List ℕ) → has_in i holders ≡ has_in i (get_by_text old value))
       → (v i : List ℕ) → has_in i (get_by_text new v) ≡ has_in i (get_by_text old v)
   none_changed old new holders h none v i =
@@ -88,7 +89,7 @@ module _ {S : Type 0} (value : List ℕ) where
       ∙ cond_same (pointwise nat_eq v value) (has_in i (get_by_text old v))
 
   -- nothing is noted under a value any more, where no id but one was
-  pub last_gone : (id : List ℕ) (old left new : Notes S) (holders : Option Holders) → ChangesAt value old left holders → ChangesAt value left new None
+  pub last_gone : (id : List ℕ) (old left new : Notes) (holders : Option Holders) → ChangesAt value old left holders → ChangesAt value left new None
       → ((i : List ℕ) → cond (is_same id i) false (has_in i (get_by_text old value)) ≡ false)
       → (v i : List ℕ) → has_in i (get_by_text new v) ≡ cond (pointwise nat_eq v value && is_same id i) false (has_in i (get_by_text old v))
   last_gone id old left new holders g h last v i =

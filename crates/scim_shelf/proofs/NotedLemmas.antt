@@ -106,6 +106,18 @@ and_right : (a b : Bool) → (a && b) ≡ true → b ≡ true
 and_right true b h = h
 and_right false b h = cc
 
+not_is : (b : Bool) → not b ≡ true → b ≡ false
+not_is true h = cc
+not_is false h = refl
+
+-- the values that come of a resource aren't noted yet
+pub come_unnoted : (old : Kept) (values : List (List ℕ)) (c : Content) (cs : List Content)
+    → ((v i : List ℕ) → is_noted old v i ≡ is_group_in v (find (has_id i) cs))
+    → ((v : List ℕ) → is_one_of v values ≡ (is_group_with v c && not (is_group_in v (find (has_id c.id) cs)))) → IsUnnoted old values c.id
+come_unnoted old values c cs noted come v among =
+    noted v c.id
+    ∙ not_is (is_group_in v (find (has_id c.id) cs)) (and_right (is_group_with v c) (not (is_group_in v (find (has_id c.id) cs))) (sym (come v) ∙ among))
+
 -- where notes are let go that weren't there, those that stay are as they were
 pub taken_back : (old mid new : Kept) (values : List (List ℕ)) (id : List ℕ) → IsUnnoted old values id
     → ((v i : List ℕ) → (is_one_of v values && is_same id i) ≡ false → is_noted mid v i ≡ is_noted old v i)

@@ -1,9 +1,10 @@
 -- The index of resources by unique name, as the code stores it.
-use Rattle.std.specs.Prelude.{ℕ, Bool, List, Option}
+use Rattle.std.specs.Prelude.{◌≡◌, ℕ, Bool, true, List, Option, None}
 use Rattle.std.specs.List.{list_any}
-use Rattle.std.specs.HashMap.{get, spare}
+use Rattle.std.specs.BTreeMap.{get}
 use Rattle.scim_value.specs.declared.uniqueness.UniqueName.{UniqueName}
 use Rattle.scim_value.specs.contracts.uniqueness.UniqueNamePartialEq.TheImpl as name_eq
+use Rattle.scim_value.specs.contracts.uniqueness.UniqueNameOrd.TheImpl as name_ord
 use Rattle.scim_shelf.specs.declared.owners.Owners.{Owners}
 
 -- Whether the code treats two unique names as equal.
@@ -16,8 +17,12 @@ is_among q names = list_any (λ n. is_alike n q) names
 
 -- The id of the resource that has a name, if any.
 abbrev pub owner : Owners → UniqueName → Option (List ℕ)
-owner owners q = get is_alike owners.by_name q
+owner owners q = get (name_ord.ghosts).cmp owners.by_name q
 
--- How many more names the index can store without allocating.
-abbrev pub room : Owners → ℕ
-room owners = spare owners.by_name
+-- No resource has any of these names.
+abbrev pub AreUnowned : Owners → List UniqueName → Type 0
+AreUnowned owners names = (q : UniqueName) → is_among q names ≡ true → owner owners q ≡ None
+
+-- Each name has the same owner in both indexes.
+abbrev pub HasSameOwners : Owners → Owners → Type 0
+HasSameOwners old new = (q : UniqueName) → owner new q ≡ owner old q

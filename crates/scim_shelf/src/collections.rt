@@ -9,10 +9,12 @@ ghost use Rattle.std.specs.List.Sorted.{IsPermutation};
 ghost use Rattle.std.specs.Option.{option_copied};
 ghost use Rattle.scim_cell.specs.Content.{Content};
 ghost use Rattle.scim_cell.specs.Kinds.{of_kind};
+ghost use Rattle.scim_value.specs.declared.uniqueness.UniqueName.{UniqueName};
 ghost use Rattle.scim_value.specs.Uniqueness.{name_of, AreApart};
 ghost use Rattle.scim_shelf.specs.Stores.{Store, HasPlace, CanKeep, IsOld, is_at, has_name, is_group_with, changed, keep, without};
 ghost use Rattle.scim_shelf.specs.Collections.{IsCollection};
-ghost use Rattle.scim_shelf.specs.Indexed.{has_id, only_of, names_of, before};
+ghost use Rattle.scim_shelf.specs.Indexed.{has_id, has_in, only_of, names_of, before};
+ghost use Rattle.scim_shelf.specs.Owners.{is_among};
 ghost use Rattle.scim_shelf.specs.Members.{is_same, is_noted, is_one_of, is_value_of, is_group_in, IsUnnoted, HasSameNotes};
 
 use crate::changes::Change;
@@ -29,9 +31,9 @@ use std::collections::{BTreeMap, BTreeSet};
 
 /// The resources of a store in memory, indexed by id, by unique name and by member value.
 ///
-/// A look-up by id searches a tree. A look-up by unique name or by member value finds the ids in a hash table
-/// and then searches the tree for each id, without reading the members of any group. Making a change
-/// reads only the stored resource that has the id of the change.
+/// A look-up by id searches a tree. A look-up by unique name or by member value finds the ids in a tree of
+/// names or of values and then searches the tree of resources for each id, without reading the members of any
+/// group. Making a change reads only the stored resource that has the id of the change.
 pub(crate) struct Collection {
     by_id: BTreeMap<Id, Resource>,
     owners: Owners,
@@ -158,6 +160,22 @@ impl Collection {
         }
     }
 
+    /// Returns the unique names of the resource with the id that aren't among `names`.
+    fn names_gone(
+        &self,
+        alloc: Global,
+        id: Id,
+        names: &[UniqueName],
+    ) -> Result<Vec<UniqueName>, NoMemory>
+        ensures { IfOk result (λ gone. (cs : List Content) → IsCollection cs self.now
+            → (q : UniqueName) → is_among q gone.items
+            ≡ (has_in (name_of q) (find (has_id id) cs) && not (is_among q names.now))) }
+    {
+        let mut gone = self.names_at(alloc, id)?;
+        gone.retain(|name| !names.contains(name));
+        Ok(gone)
+    }
+
     /// Returns the member values that the stored group with the id of `new` lists, but `new` doesn't. Their
     /// index entries are removed when `new` is stored.
     fn values_gone(&self, alloc: Global, new: &Resource) -> Result<Vec<Text>, NoMemory>
@@ -224,13 +242,16 @@ impl Collection {
     {
         let id = resource.id();
         let names = unique_names(alloc, &resource)?;
-        let old_names = self.names_at(alloc, id)?;
+        let names_gone = self.names_gone(alloc, id, names.as_slice())?;
+        let names_come = self.owners.unowned(names);
         let gone = self.values_gone(alloc, &resource)?;
         let come = self.values_come(alloc, &resource)?;
-        self.owners.reserve(names.len())?;
-        self.insert(alloc, resource, come.as_slice())?;
-        self.owners.forget(old_names.as_slice());
-        self.owners.note(names, id);
+        self.owners.note(alloc, names_come.as_slice(), id)?;
+        if let Err(refused) = self.insert(alloc, resource, come.as_slice()) {
+            self.owners.forget(names_come.as_slice());
+            return Err(refused);
+        }
+        self.owners.forget(names_gone.as_slice());
         self.members.forget_values(gone.as_slice(), id);
         Ok(())
     }

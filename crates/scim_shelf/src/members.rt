@@ -13,7 +13,7 @@ use scim_cell::{Id, Row, Text};
 use scim_text::{NoMemory, push};
 use scim_value::Resource;
 use std::alloc::Global;
-use std::collections::{BTreeSet, HashMap};
+use std::collections::{BTreeMap, BTreeSet};
 
 /// The ids of the groups that are indexed under one value. Usually there is only one id.
 #[derive(Drop)]
@@ -86,11 +86,11 @@ impl Holders {
 /// An index from member values to the ids of the groups that list them.
 ///
 /// In a collection a group is indexed under exactly the values that it lists, and a user under no value, so a
-/// look-up needn't read the group. Values are looked up in a hash table. Several ids under one value are kept
-/// in a tree.
+/// look-up needn't read the group. The map is ordered, so no choice of values makes a look-up slow. Several
+/// ids under one value are kept in a tree.
 #[derive(Drop)]
 pub(crate) struct Members {
-    by_value: HashMap<String, Holders>,
+    by_value: BTreeMap<String, Holders>,
 }
 
 impl Members {
@@ -99,7 +99,7 @@ impl Members {
         ensures { (v i : List ℕ) → is_noted result v i ≡ false }
     {
         Members {
-            by_value: HashMap::new(alloc),
+            by_value: BTreeMap::new(alloc),
         }
     }
 

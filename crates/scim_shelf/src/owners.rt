@@ -1,18 +1,32 @@
 //! An index of resources by unique name.
-ghost use Rattle.std.specs.Prelude.{◌≡◌, ◌≤◌, OnOk, None, Some, cond, vec_len};
+ghost use Rattle.std.specs.Prelude.{◌≡◌, ◌&&◌, OnOk, OnErr, IfOk, None, Some, false, cond, is_none};
 ghost use Rattle.scim_value.specs.declared.uniqueness.UniqueName.{UniqueName};
-ghost use Rattle.scim_shelf.specs.Owners.{owner, room, is_among};
+ghost use Rattle.scim_value.specs.Uniqueness.{name_of};
+ghost use Rattle.scim_shelf.specs.Owners.{owner, is_alike, is_among, AreUnowned, HasSameOwners};
 
 use scim_cell::Id;
 use scim_text::NoMemory;
 use scim_value::UniqueName;
 use std::alloc::Global;
-use std::collections::HashMap;
+use std::collections::BTreeMap;
 
 /// An index from unique names to the ids of the resources that have them.
+///
+/// The map is ordered, so no choice of names makes a look-up slow.
 #[derive(Drop)]
 pub(crate) struct Owners {
-    by_name: HashMap<UniqueName, Id>,
+    by_name: BTreeMap<UniqueName, Id>,
+}
+
+/// Returns a copy of the name.
+fn copy_of(alloc: Global, name: &UniqueName) -> Result<UniqueName, NoMemory>
+    ensures { IfOk result (λ copy. name_of copy ≡ name_of name.now) }
+{
+    let text = String::from_str(alloc, name.text.as_str())?;
+    Ok(UniqueName {
+        leaf: name.leaf,
+        text,
+    })
 }
 
 impl Owners {
@@ -21,7 +35,7 @@ impl Owners {
         ensures { (q : UniqueName) → owner result q ≡ None }
     {
         Owners {
-            by_name: HashMap::new(alloc),
+            by_name: BTreeMap::new(alloc),
         }
     }
 
@@ -32,36 +46,77 @@ impl Owners {
         self.by_name.get(name).copied()
     }
 
-    /// Reserves room for `count` more names.
-    pub(crate) fn reserve(&mut self, count: usize) -> Result<(), NoMemory>
-        ensures same { (q : UniqueName) → owner self.new q ≡ owner self.old q }
-        ensures room { OnOk result (count ≤ room self.new) }
+    /// Returns those of the names that no resource has.
+    pub(crate) fn unowned(&self, names: Vec<UniqueName>) -> Vec<UniqueName>
+        ensures { (q : UniqueName) → is_among q result.items
+            ≡ (is_among q names.items && is_none (owner self.now q)) }
     {
-        self.by_name.reserve(count)?;
-        Ok(())
+        let mut left = names;
+        left.retain(|name| self.of(name).is_none());
+        left
+    }
+
+    /// Removes the name.
+    fn forget_one(&mut self, name: &UniqueName)
+        ensures { (q : UniqueName) → owner self.new q
+            ≡ cond (is_alike name.now q) None (owner self.old q) }
+    {
+        self.by_name.remove(name);
     }
 
     /// Removes these names.
     pub(crate) fn forget(&mut self, names: &[UniqueName])
-        ensures owners { (q : UniqueName) → owner self.new q
+        ensures { (q : UniqueName) → owner self.new q
             ≡ cond (is_among q names.now) None (owner self.old q) }
-        ensures room { room self.old ≤ room self.new }
     {
         for name in names {
-            self.by_name.remove(name);
+            self.forget_one(name);
         }
     }
 
-    /// Adds these names for the resource with this id. There must be room for all of them, as after
-    /// `reserve`.
-    pub(crate) fn note(&mut self, names: Vec<UniqueName>, id: Id)
-        requires { vec_len names ≤ room self.old }
-        ensures { (q : UniqueName) → owner self.new q
-            ≡ cond (is_among q names.items) (Some id) (owner self.old q) }
+    /// Adds a copy of the name for the resource with this id. On an error nothing is changed.
+    fn note_one(&mut self, alloc: Global, name: &UniqueName, id: Id) -> Result<(), NoMemory>
+        ensures ok { OnOk result ((q : UniqueName) → owner self.new q
+            ≡ cond (is_alike name.now q) (Some id) (owner self.old q)) }
+        ensures err { OnErr result (HasSameOwners self.old self.new) }
     {
-        let mut left = names;
-        'names: while let Some(name) = left.pop() {
-            let _ = self.by_name.insert(name, id);
+        let copy = copy_of(alloc, name)?;
+        self.by_name.insert(copy, id)?;
+        Ok(())
+    }
+
+    /// Adds copies of these names for the resource with this id. On an error some of the names may have been
+    /// added.
+    fn note_each(&mut self, alloc: Global, names: &[UniqueName], id: Id) -> Result<(), NoMemory>
+        ensures ok { OnOk result ((q : UniqueName) → owner self.new q
+            ≡ cond (is_among q names.now) (Some id) (owner self.old q)) }
+        ensures others { (q : UniqueName) → is_among q names.now ≡ false
+            → owner self.new q ≡ owner self.old q }
+    {
+        for name in names {
+            self.note_one(alloc, name, id)?;
         }
+        Ok(())
+    }
+
+    /// Adds copies of these names for the resource with this id.
+    ///
+    /// On an error the index is unchanged, provided that no resource had any of these names before.
+    pub(crate) fn note(
+        &mut self,
+        alloc: Global,
+        names: &[UniqueName],
+        id: Id,
+    ) -> Result<(), NoMemory>
+        ensures ok { OnOk result ((q : UniqueName) → owner self.new q
+            ≡ cond (is_among q names.now) (Some id) (owner self.old q)) }
+        ensures err { OnErr result (AreUnowned self.old names.now
+            → HasSameOwners self.old self.new) }
+    {
+        let noted = self.note_each(alloc, names, id);
+        if noted.is_err() {
+            self.forget(names);
+        }
+        noted
     }
 }

@@ -47,7 +47,7 @@ returns-clause-ok c = λ cs h.
     let names = c.in_ok-names.names.items in
     let new : Collection = record { by_id = c.remove.new.self; owners = c.forget.new.self; members = c.forget_group.new.self } in
     let found : Some c.in-Some.old ≡ find (has_id id) cs = c.in-Some.ensures.value ∙ found_keyed id cs old h in
-    left id names cs old new h c.remove.ensures.entries (rw c.as_slice.ensures.value at c.forget.ensures.owners) (c.in_ok-names.ensures cs h)
+    left id names cs old new h c.remove.ensures.entries (rw c.as_slice.ensures.value at c.forget.ensures) (c.in_ok-names.ensures cs h)
     (λ v i. c.forget_group.ensures v i ∙ ap (λ (o : Option Content). cond (is_group_in v o && is_same id i) false (is_noted old.members v i)) found)
 
 pub returns-in_default-clause-ok : goal.returns-in_default-clause-ok
@@ -57,5 +57,5 @@ returns-in_default-clause-ok c = λ cs h.
     let names = c.in_ok-names.names.items in
     let new : Collection = record { by_id = c.remove.new.self; owners = c.forget.new.self; members = old.members } in
     let found : None ≡ find (has_id id) cs = c.in_default.ensures.value ∙ found_keyed id cs old h in
-    left id names cs old new h c.remove.ensures.entries (rw c.as_slice.ensures.value at c.forget.ensures.owners) (c.in_ok-names.ensures cs h)
+    left id names cs old new h c.remove.ensures.entries (rw c.as_slice.ensures.value at c.forget.ensures) (c.in_ok-names.ensures cs h)
     (λ v i. ap (λ (o : Option Content). cond (is_group_in v o && is_same id i) false (is_noted old.members v i)) found)

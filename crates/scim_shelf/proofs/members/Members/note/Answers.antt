@@ -1,8 +1,9 @@
 use Rattle.std.proofs.Common.{◌∙◌, ap, cond, true, ℕ, List, subst}
 use Rattle.std.specs.Prelude.{Option, Some}
-use Rattle.std.specs.Str.{bytes_eq}
-use Rattle.std.specs.String.{string_eq, string_bytes}
-use Rattle.std.specs.HashMap.{UpdatesBy}
+use Rattle.std.specs.Ordering.{nat_cmp}
+use Rattle.std.specs.Cmp.Lexicographic.{slice_cmp}
+use Rattle.std.specs.String.{string_cmp, string_bytes}
+use Rattle.std.specs.BTreeMap.{UpdatesBy}
 use Rattle.std.proofs.lemmas.Result.{on_ok_weaker, on_err_weaker}
 use Rattle.scim_shelf.specs.declared.members.Holders.{Holders}
 use Rattle.scim_shelf.specs.declared.members.Holders.TheVariants.{One}
@@ -38,7 +39,7 @@ returns-clause-ok c =
     let new = c.insert.new.self in
     let one : Option Holders = Some (One c.args.id) in
     let put : ChangesAt value old new one =
-    subst (λ (bs : List ℕ). UpdatesBy string_eq (λ k. bytes_eq bs (string_bytes k)) old new one) c.in_ok-value.ensures.ok c.in_ok-insert.ensures.updates in
+    subst (λ (bs : List ℕ). UpdatesBy string_cmp (λ k. slice_cmp nat_cmp bs (string_bytes k)) old new one) c.in_ok-value.ensures.ok c.in_ok-insert.ensures.updates in
     let here = rw same at put in
     one_changed value c.args.id true c.args.self.now.by_value new one here
     (λ i. same_alone c.args.id i ∙ ap (λ (o : Option Holders). cond (is_same c.args.id i) true (has_in i o)) c.in_default.ensures.value)

@@ -7,5 +7,5 @@ pub loop-name-preserved : goal.loop-name-preserved
 loop-name-preserved c = grind (arith, common_steps)
 
 -- by name, since what is tried before it is long
-pub returns-clause-owners : goal.returns-clause-owners
-returns-clause-owners c = grind (arith, common_steps)
+pub returns : goal.returns
+returns c = grind (arith, common_steps)
