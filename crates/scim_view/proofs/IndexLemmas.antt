@@ -1,10 +1,16 @@
 -- What an index of groups holds, as groups are added, and what it gives.
 use Rattle.std.proofs.Common.{◌≡◌, refl, sym, ◌∙◌, ap, subst, ℕ, ◌+◌, ◌-◌, ◌<◌, Bool, true, false, ◌||◌, cond, List, [], ◌∷◌, ◌++◌, append_assoc, map, filter, length, inl, inr, arith}
-use Rattle.std.specs.Prelude.{All, Option, None, Some, nat_eq, if◌then◌else◌}
+use Rattle.std.specs.Prelude.{All, Option, None, Some, IsSome, nat_eq, if◌then◌else◌}
 use Rattle.std.specs.List.{list_any, slice_get}
 use Rattle.std.specs.Option.{option_eq, option_copied}
+use Rattle.std.specs.Global.{Vec}
+use Rattle.std.specs.BTreeMap.{BTreeMap, UpdatesBy, get}
+use Rattle.std.specs.Ordering.{nat_cmp, is_eq}
+use Rattle.std.specs.Cmp.Lexicographic.{slice_cmp}
 use Rattle.std.proofs.lemmas.Bool.{cases_Bool, ne_eqb, eq-eqb}
 use Rattle.std.proofs.lemmas.List.{length_push, length-map, map_push}
+use Rattle.std.proofs.lemmas.Map.Text.{is_eq-slice_cmp}
+use Rattle.std.proofs.lemmas.Slice.Eq.{bytes_eq-Decides}
 use Rattle.std.proofs.lemmas.List.Elements.{All-nil, All-cons, All-weaker}
 use denote.Ref.{Bor}
 use Rattle.std.specs.Slice.{IsItemAt}
@@ -16,7 +22,7 @@ use Rattle.scim_view.specs.declared.group_index.GroupIndex.{GroupIndex}
 use Rattle.scim_view.specs.View.{Viewer, view}
 use Rattle.scim_value.specs.Members.{lists}
 use Rattle.scim_view.specs.Groups.{and_those, seen}
-use Rattle.scim_view.specs.code.Index.{ends_in, noted, at_positions, positions_of, Indexes, positions_from, IsMadeOf}
+use Rattle.scim_view.specs.code.Index.{ends_in, noted, at_positions, positions_in, positions_of, Indexes, positions_from, IsMadeOf}
 use Rattle.scim_view.specs.code.Memberships.{kept_of}
 
 -- an element that was added at the end stands there
@@ -36,6 +42,28 @@ noted_twice p ps =
       | inl t ↦ rw (t, t) refl
       | inr n ↦ rw n (rw (ends_in_itself p ps) refl)
     ]
+
+-- the positions, by id
+abbrev pub Positions : Type 0
+Positions = BTreeMap (List ℕ) (Vec ℕ)
+
+-- what is found is there
+pub is_there : {X : Type 0} (o : Option X) (x : X) → Some x ≡ o → IsSome o
+is_there o x h = subst IsSome h refl
+
+-- where one position more is kept for an id, it is noted for this id alone
+pub noted_at : (id : List ℕ) (n : ℕ) (old new : Positions) (ps : Option (Vec ℕ)) → UpdatesBy (slice_cmp nat_cmp) (slice_cmp nat_cmp id) old new ps
+    → positions_in ps ≡ noted n (positions_in (get (slice_cmp nat_cmp) old id)) → (other : List ℕ)
+    → positions_in (get (slice_cmp nat_cmp) new other)
+    ≡ cond (is_eq (slice_cmp nat_cmp id other)) (noted n (positions_in (get (slice_cmp nat_cmp) old other))) (positions_in (get (slice_cmp nat_cmp) old other))
+noted_at id n old new ps updates is other =
+    ap positions_in (updates.0 other)
+    ∙ (elim (cases_Bool (is_eq (slice_cmp nat_cmp id other))) [
+      | inl t ↦
+          let same : id ≡ other = (bytes_eq-Decides id other).0 (sym (is_eq-slice_cmp id other) ∙ t) in
+          rw t (is ∙ ap (λ (x : List ℕ). noted n (positions_in (get (slice_cmp nat_cmp) old x))) same)
+      | inr f ↦ rw f refl
+    ])
 
 -- a position beyond all others is new
 ends_in_below : (p : ℕ) (ps : List ℕ) → All (λ q. q < p) ps → ends_in p ps ≡ false

@@ -1,9 +1,10 @@
 //! An index of groups by the ids of their members.
 ghost use Rattle.std.specs.Prelude.{◌≡◌, ◌++◌, ◌∷◌, [], ℕ, List, cond, map, vec_len, IfOk, IfSome, OnOk, if◌then◌else◌};
 ghost use Rattle.std.specs.List.{list_any};
+ghost use Rattle.std.specs.Ordering.{nat_cmp, is_eq};
+ghost use Rattle.std.specs.Cmp.Lexicographic.{slice_cmp};
 ghost use Rattle.scim_schema.specs.declared.Leaf.{Leaf};
 ghost use Rattle.scim_cell.specs.Content.{Content};
-ghost use Rattle.scim_cell.specs.Equality.{is_same_id};
 ghost use Rattle.scim_cell.specs.Ids.{IsId};
 ghost use Rattle.scim_policy.specs.Table.{decision};
 ghost use Rattle.scim_view.specs.View.{Viewer as SpecViewer, read_decision, viewer_of, visible_by};
@@ -147,13 +148,18 @@ impl GroupIndex {
     fn add_member(&mut self, alloc: Global, id: Id) -> Result<(), NoMemory>
         ensures groups { self.new.groups ≡ self.old.groups }
         ensures positions { OnOk result ((other : List ℕ) → spec.positions_of self.new other
-            ≡ cond (is_same_id id other)
+            ≡ cond (is_eq (slice_cmp nat_cmp id other))
             (spec.noted (vec_len self.old.groups) (spec.positions_of self.old other))
             (spec.positions_of self.old other)) }
     {
         let position = self.groups.len();
-        let positions = self.by_member.entry(id)?.or_insert(Vec::new(alloc));
-        note(positions, position)
+        if let Some(positions) = self.by_member.get_mut(&id) {
+            return note(positions, position);
+        }
+        let mut positions = Vec::new(alloc);
+        push(&mut positions, position)?;
+        self.by_member.insert(id, positions)?;
+        Ok(())
     }
 }
 

@@ -2,6 +2,7 @@ use Rattle.std.proofs.Common.{◌≡◌, sym, ◌∙◌, ap, List, ℕ, Bool, ta
 use Rattle.std.specs.Prelude.{if◌then◌else◌, Option, None, Some, vec_len}
 use Rattle.std.specs.List.{list_any}
 use Rattle.std.proofs.lemmas.List.{take_more, take_all}
+use Rattle.std.proofs.lemmas.Map.Text.{is_eq-slice_cmp}
 use Rattle.scim_cell.specs.Rows.{Row}
 use Rattle.scim_view.specs.declared.group_index.GroupIndex.{GroupIndex}
 use Rattle.scim_view.specs.code.Index as spec
@@ -29,6 +30,7 @@ loop-member-preserved c =
             let found = Some w.in-Some.id in
             let e : spec.names_member id m ≡ spec.is_found id found = c.member_id.ensures.id id valid ∙ ap (spec.is_found id) w.in-Some.is in
             ap (λ (s : GroupIndex). spec.positions_of s id) w.self-is ∙ w.in_ok-add_member.ensures.positions id
+            ∙ ap (λ (b : Bool). cond b (spec.noted (vec_len c.loop-member.self.groups) (spec.positions_of c.loop-member.self id)) (spec.positions_of c.loop-member.self id)) (is_eq-slice_cmp w.in-Some.id id)
             ∙ ap (λ (k : ℕ). cond (spec.is_found id found) (spec.noted k (spec.positions_of c.loop-member.self id)) (spec.positions_of c.loop-member.self id)) (ap (λ v. vec_len v) h.groups)
             ∙ noted_more (before id) (spec.is_found id found) n (old id) (spec.positions_of c.loop-member.self id) (h.positions id valid)
             ∙ sym (noted id found e);
