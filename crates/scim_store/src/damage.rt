@@ -30,7 +30,7 @@ use scim_value::{Resource, UniqueName, unique_names};
 use sqlite::Row;
 use sqlite::types::ValueRef;
 use std::alloc::Global;
-use std::collections::{BTreeSet, HashSet};
+use std::collections::BTreeSet;
 use std::marker::Model;
 
 /// The result of testing the rows of resources.
@@ -324,13 +324,14 @@ fn text_of_name(name: &Row) -> Option<&[u8]>
 }
 
 /// Whether each row of a unique name has a folded text, and no two rows have the same. The attribute isn't
-/// compared: only one attribute has unique names, and a resource has at most one unique name.
+/// compared: only one attribute has unique names, and a resource has at most one unique name. The set is
+/// ordered, so no choice of names makes a look-up slow.
 fn are_apart(alloc: Global, names: &[Row]) -> Result<bool, NoMemory>
     ensures yes { IfOk result (λ apart. apart ≡ true → IsDistinct spec.is_shared names.now) }
     ensures no { IfOk result (λ apart. apart ≡ false → All code.HasName names.now
         → IsDistinct spec.is_shared names.now → ⊥) }
 {
-    let mut texts = HashSet::with_capacity(alloc, names.len())?;
+    let mut texts = BTreeSet::new(alloc);
     for name in names {
         let Some(text) = text_of_name(name) else {
             return Ok(false);

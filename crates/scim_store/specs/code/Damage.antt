@@ -1,9 +1,7 @@
 -- The rows of one resource, as the code compares them.
-use Rattle.std.specs.Prelude.{◌≡◌, ◌<◌, ◌≤◌, ◌-◌, ℕ, nat_eq, pos, ◌==◌, Bool, true, false, ◌&&◌, List, [], ◌∷◌, length, get_or, map, All, Option, None, Some, IsUtf8}
+use Rattle.std.specs.Prelude.{◌≡◌, ◌<◌, ◌≤◌, ◌-◌, ℕ, pos, ◌==◌, Bool, true, false, ◌&&◌, List, [], ◌∷◌, length, get_or, map, All, Option, None, Some, IsUtf8}
 use Rattle.std.specs.Ordering.{int_eq, nat_cmp}
-use Rattle.std.specs.Cmp.Lexicographic.{slice_cmp, pointwise}
-use Rattle.std.specs.HashSet.{HashSet, contains_by}
-use denote.Ref.{Bor}
+use Rattle.std.specs.Cmp.Lexicographic.{slice_cmp}
 use Rattle.std.specs.List.Sorted.{IsStrictlySortedBy}
 use Rattle.scim_value.specs.Members.{lists_value}
 use Rattle.scim_store_rows.specs.Stands.{is_among}
@@ -85,10 +83,6 @@ pub record AreAllOwned (tables : Tables) : Type 0 where
   pub resources : All HasOwner tables.resources
   pub names : All HasOwner tables.names
   pub members : All HasOwner tables.members
-
--- Whether a text is in a set of borrowed texts.
-abbrev pub is_in : {S : Type 0} → List ℕ → HashSet (Bor (List ℕ)) S → Bool
-is_in text texts = contains_by (λ t. pointwise nat_eq text t.now) texts
 
 -- The row before `place`, if there is one, passes the test, and the row at `place`, if there is one, doesn't.
 pub record IsPartedAt (test : Row → Bool) (rows : List Row) (place : ℕ) : Type 0 where

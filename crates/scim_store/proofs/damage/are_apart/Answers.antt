@@ -1,11 +1,10 @@
 use Rattle.std.proofs.Common.{rules, ◌≡◌, ◌<◌, sym, ◌∙◌, ap, true, false, length, take, arith, cond}
 use Rattle.std.specs.List.{list_any}
-use Rattle.std.proofs.lemmas.Map.Text.{is_eq-slice_cmp}
 use Rattle.sqlite.specs.declared.types.Value.TheVariants.{Text}
 use Rattle.sqlite.specs.Order.{column}
 use Rattle.std.specs.Option.{option_copied}
-use Rattle.scim_store.specs.code.Damage.{is_in}
-use Rattle.scim_store_tables.specs.Lists.{has_text}
+use Rattle.scim_shelf.specs.Members.{is_in}
+use Rattle.scim_store_tables.specs.Lists.{has_text, is_text}
 use Rattle.scim_store.proofs.ApartLemmas.{text_in_is, no_text_in, none_distinct, apart_more, apart_clash, known_more, not_true, not_false}
 use Rattle.scim_store.proofs.damage.are_apart.Goals as goal
 
@@ -38,6 +37,6 @@ loop-name-preserved c =
     let at : column row 2 ≡ Text t = text_in_is (column row 2) t (sym (ap option_copied c.in-Some.is) ∙ c.text_of_name.ensures) in
     let none : list_any (has_text 2 t) (take k names) ≡ false = sym (c.loop-name.invariant.known t) ∙ not_false c.in_ok-insert.field-0 (is_in t c.loop-name.texts) c.in_ok-insert.ensures.added c.if-not-branch.false in
     record {
-      known = λ v. c.in_ok-insert.ensures.updates.0 (record { ref_ptr = (0, 0); now = v }) ∙ (λ i. cond (sym (is_eq-slice_cmp t v) i) true (c.loop-name.invariant.known v i)) ∙ known_more names k row t v low c.name-item.is at;
+      known = λ v. c.in_ok-insert.ensures.updates.0 (record { ref_ptr = (0, 0); now = v }) ∙ ap (λ b. cond (is_text v (Text t)) true b) (c.loop-name.invariant.known v) ∙ known_more names k row t v low c.name-item.is at;
       apart = apart_more names k row t low c.name-item.is at c.loop-name.invariant.apart none;
     }

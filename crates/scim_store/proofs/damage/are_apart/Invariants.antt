@@ -1,6 +1,6 @@
 use Rattle.std.proofs.Common.{◌≡◌, ℕ, List, take}
 use Rattle.std.specs.List.{list_any, IsDistinct}
-use Rattle.scim_store.specs.code.Damage.{is_in}
+use Rattle.scim_shelf.specs.Members.{is_in}
 use Rattle.scim_store_tables.specs.Lists.{has_text}
 use Rattle.scim_store.specs.Damage.{is_shared}
 use Rattle.scim_store.proofs.damage.are_apart.Given as goal
