@@ -1,9 +1,9 @@
 -- What the rows of a database tell of the store that its tables stand for.
 use Rattle.std.proofs.Common.{◌≡◌, ℕ, refl, sym, inl, inr, IsTrue, ap, subst, ◌∙◌, List, [], ◌∷◌, length}
-use Rattle.std.specs.Prelude.{Some, None}
+use Rattle.std.specs.Prelude.{Option, Some, None, IsPermutation}
 use Rattle.std.specs.List.{AllByRecursion}
-use Rattle.std.proofs.lemmas.List.Sorted.{IsPermutation-sym}
-use Rattle.sqlite_trees.proofs.ListLemmas.{all-flat_map, all-map, IsPermutation-same}
+use Rattle.std.proofs.lemmas.List.Sorted.{IsPermutation-sym, IsPermutation-trans}
+use Rattle.sqlite_trees.proofs.ListLemmas.{all-flat_map, all-map}
 use Rattle.sqlite.specs.Effect.{Database}
 use Rattle.sqlite.specs.Order.{Row, column}
 use Rattle.sqlite.specs.State.{State, HasCleanDisk, Survives}
@@ -15,18 +15,20 @@ use Rattle.scim_store_tables.specs.Tables.{no_schema}
 use Rattle.scim_store.specs.Beginning.{no_store, Begins}
 use Rattle.scim_store.proofs.ShelfLemmas.{clean_before}
 use Rattle.scim_store_tables.specs.Lists.{Are}
-use Rattle.scim_store_tables.specs.Reading.{shown, Rests}
-use Rattle.scim_store_tables.specs.Whole.{AreRowsOf as AreRead, Is, IsUntouched, IsReading}
+use Rattle.scim_store_tables.specs.Tables.{store_schema}
+use Rattle.scim_store_tables.specs.Reading.{shown, Rests, Spares}
+use Rattle.scim_store_tables.specs.Whole.{AreInOrder, AreRowsOf as AreRead, Is, IsUntouched, IsReading}
 use Rattle.scim_store_tables.specs.declared.database_kinds.TableRows.{TableRows}
-use Rattle.scim_store_tables.specs.declared.database_kinds.DatabaseKind.TheVariants.{WrongVersion as OtherVersion, Foreign as OtherProgram, Altered}
+use Rattle.scim_store_tables.specs.declared.database_kinds.DatabaseKind.TheVariants.{WrongVersion as OtherVersion, Foreign as OtherProgram, Altered, Tables}
 use Rattle.scim_store_tables.proofs.Facts.{order_rising}
-use Rattle.scim_store_tables.proofs.Facts.{rows_of, holds_lists, altered_rows, altered_further}
+use Rattle.scim_store_tables.proofs.Facts.{rows_of, holds_lists, altered_rows, altered_further, both_unchanged}
 use Rattle.scim_store_rows.specs.Audit.{audit_rows}
 use Rattle.scim_cell.specs.Ids.{IsId}
 use Rattle.scim_store.specs.Damage.{AreOrdered, AreSound, HoldsAt, IsLeastDamage, IsForeign, Judges}
 use Rattle.scim_store.specs.declared.damage.Judged.{Judged}
 use Rattle.scim_store.specs.declared.damage.Judged.TheVariants.{Sound, Damaged as DamagedAt, Foreign as ForeignRows}
-use Rattle.scim_store.specs.Opening.{resource_tables, CountsAudit, IsByAudit, by_judged, IsFor, Examines}
+use Rattle.scim_store_rows.specs.Auditing.{CountsAudit, TellsCount}
+use Rattle.scim_store.specs.Opening.{resource_tables, by_count, by_judged, IsFor, Examines, ExaminesRows}
 use Rattle.scim_store_rows.specs.Finding.{StandsIn}
 use Rattle.scim_store.specs.Shelves.{IsKeptIn, HasOpened, LeavesBegun}
 use Rattle.scim_store.specs.declared.examining.Examined.{Examined}
@@ -68,8 +70,8 @@ ordered_read db rows read = record { resources = read.resources.order; names = r
 
 -- ---- rows that are sound
 
-pub read_stands : (base : List ℕ) (db : Database) (rows : TableRows) (count : ℕ) → Are db (shown db) → AreRead (shown db) rows → AreSound base (resource_tables rows) → CountsAudit rows.audit.items (Some count) → IsFor base db (Stands count)
-read_stands base db rows count held read (es, are) (audit, valid, is, long) = (
+read_stands : (base : List ℕ) (db : Database) (rows : TableRows) (listed : List Row) (count : ℕ) → Are db (shown db) → AreRead (shown db) rows → AreSound base (resource_tables rows) → AreInOrder (0 ∷ []) (shown db).audit listed → CountsAudit listed (Some count) → IsFor base db (Stands count)
+read_stands base db rows listed count held read (es, are) shows (audit, valid, is, long) = (
   record { resources = contents es; audit = audit },
   record {
     entries = es;
@@ -80,8 +82,7 @@ read_stands base db rows count held read (es, are) (audit, valid, is, long) = (
       resources = record { same = IsPermutation-sym _ _ are.resources; order = read.resources.order };
       names = record { same = IsPermutation-sym _ _ are.names; order = read.names.order };
       members = record { same = IsPermutation-sym _ _ are.members; order = read.members.order };
-      audit = record { same = IsPermutation-same _ _ is; order = read.audit.order };
-    });
+    }) (subst (IsPermutation (shown db).audit) (sym is) shows.same);
   },
   valid,
   long,
@@ -115,12 +116,12 @@ foreign_read base db rows held read foreign = (
   λ store sound stands. foreign.unsound (sound_of base db rows store read stands),
 )
 
-pub audit_read : (base : List ℕ) (db : Database) (rows : TableRows) → Are db (shown db) → AreRead (shown db) rows → AreSound base (resource_tables rows) → CountsAudit rows.audit.items None → IsFor base db Foreign
-audit_read base db rows held read sound none = (
+audit_read : (base : List ℕ) (db : Database) (rows : TableRows) (listed : List Row) → Are db (shown db) → AreRead (shown db) rows → AreSound base (resource_tables rows) → AreInOrder (0 ∷ []) (shown db).audit listed → CountsAudit listed None → IsFor base db Foreign
+audit_read base db rows listed held read sound shows none = (
   inr (record { tables = inl held; rows = rows; read = read; holds = λ id is. sound_holds base (resource_tables rows) id is sound }),
   λ store valid stands.
-      (let told = rows_of db (lists_of stands.entries store.audit) rows stands.tables read in
-      none store.audit valid (sym (order_rising (0 ∷ []) (audit_rows 1 store.audit) rows.audit.items (rows_rise 1 store.audit) told.audit.same told.audit.order))),
+      (let same : IsPermutation (audit_rows 1 store.audit) listed = IsPermutation-trans _ _ _ (IsPermutation-sym _ _ stands.tables.audit) shows.same in
+      none store.audit valid (sym (order_rising (0 ∷ []) (audit_rows 1 store.audit) listed (rows_rise 1 store.audit) same shows.order))),
 )
 
 -- ---- other databases
@@ -152,12 +153,50 @@ altered_read base db rows ForeignRows is foreign = altered_foreign base db rows 
 
 -- ---- all rows
 
-pub by_audit : (base : List ℕ) (db : Database) (rows : TableRows) (it : Examined) → Are db (shown db) → AreRead (shown db) rows → AreSound base (resource_tables rows) → IsByAudit rows.audit.items it → IsFor base db it
-by_audit base db rows Empty held read sound wrong = absurd wrong
-by_audit base db rows (Stands count) held read sound counts = read_stands base db rows count held read sound counts
-by_audit base db rows WrongVersion held read sound wrong = absurd wrong
-by_audit base db rows (Damaged id) held read sound wrong = absurd wrong
-by_audit base db rows Foreign held read sound none = audit_read base db rows held read sound none
+counted_read : (base : List ℕ) (db : Database) (rows : TableRows) (listed : List Row) (count : Option ℕ) → Are db (shown db) → AreRead (shown db) rows → AreSound base (resource_tables rows) → AreInOrder (0 ∷ []) (shown db).audit listed → CountsAudit listed count → IsFor base db (by_count count)
+counted_read base db rows listed (Some count) held read sound shows counts = read_stands base db rows listed count held read sound shows counts
+counted_read base db rows listed None held read sound shows none = audit_read base db rows listed held read sound shows none
+
+-- the audit of tables with sound rows of resources is counted
+pub audit_counted : (base : List ℕ) (old new : State) (rows : TableRows) (count : Option ℕ) → (AreOrdered (resource_tables rows) → Judges base (resource_tables rows) Sound) → TellsCount old new count → ExaminesRows base rows old new (by_count count)
+audit_counted base old new rows count sound told = record {
+  is = λ held read. counted_read base old.now rows told.rows count held read (sound (ordered_read old.now rows read)) told.are told.counts;
+  untouched = record { was_open = λ _. told.unchanged.0.was_open; unchanged = λ _. told.unchanged };
+}
+
+-- ---- a database whose tables were read
+
+-- its tables are ours
+tables_schema : (db : Database) (rows : TableRows) → Is db (Tables rows) → db.schema ≡ store_schema
+tables_schema db rows (inl (other, inl by)) = absurd by.1
+tables_schema db rows (inl (other, inr by)) = absurd by.1
+tables_schema db rows (inr is) = is.0
+
+-- and have these rows
+tables_rows : (db : Database) (rows : TableRows) → Is db (Tables rows) → Are db (shown db) × AreRead (shown db) rows
+tables_rows db rows (inl (other, inl by)) = absurd by.1
+tables_rows db rows (inl (other, inr by)) = absurd by.1
+tables_rows db rows (inr is) = is.1
+
+pub reading_has : (old mid : State) (rows : TableRows) → IsTrue old.is_open → IsReading old mid (Tables rows) → mid.now.schema ≡ store_schema
+reading_has old mid rows opened reading = ap (λ (d : Database). d.schema) (reading.untouched.unchanged opened).0.now_is ∙ tables_schema old.now rows reading.is
+
+pub rows_examined : (base : List ℕ) (old mid new : State) (rows : TableRows) (it : Examined) → IsTrue old.is_open → IsReading old mid (Tables rows) → ExaminesRows base rows mid new it → Examines base old new it
+rows_examined base old mid new rows it opened reading told =
+    let same = reading.untouched.unchanged opened in
+    let are = tables_rows old.now rows reading.is in
+    let now : old.now ≡ mid.now = sym same.0.now_is in
+    let is : IsFor base mid.now it = told.is (subst (λ (db : Database). Are db (shown db)) now are.0) (subst (λ (db : Database). AreRead (shown db) rows) now are.1) in
+    record {
+      is = subst (λ (db : Database). IsFor base db it) same.0.now_is is;
+      untouched = record { was_open = λ _. opened; unchanged = λ _. both_unchanged old mid new same (told.untouched.unchanged same.0.is_open) };
+    }
+
+pub rows_survive : (old mid new : State) (rows : TableRows) → (HasCleanDisk mid → IsTrue old.is_open) → (HasCleanDisk mid → IsReading old mid (Tables rows)) → Survives old mid (λ _. ⊥) → Spares mid new → Survives old new (λ _. ⊥)
+rows_survive old mid new rows opened reading one two =
+    survives_then old mid new _ _ _ (λ _ db none. none) (λ clean db other.
+    (let before = clean_before mid new two.clean clean in
+    absurd (other (reading_has old mid rows (opened before) (reading before))))) one two
 
 -- ---- a shelf over the tables
 

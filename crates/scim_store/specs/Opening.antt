@@ -1,9 +1,7 @@
 -- The result of examining a database.
-use Rattle.std.specs.Prelude.{◌≡◌, ◌≢◌, ◌⊎◌, ℕ, List, length, All, Option, Some, None}
+use Rattle.std.specs.Prelude.{◌≡◌, ◌⊎◌, ℕ, List, length, All, Option, Some, None}
 use Rattle.sqlite.specs.Effect.{Database}
-use Rattle.sqlite.specs.Order.{Row}
 use Rattle.sqlite.specs.State.{State}
-use Rattle.scim_audit.specs.declared.audit_rows.AuditRow.{AuditRow}
 use Rattle.scim_shelf.specs.Stores.{Store}
 use Rattle.scim_cell.specs.Ids.{IsId}
 use Rattle.scim_store_tables.specs.Tables.{no_schema}
@@ -14,7 +12,6 @@ use Rattle.scim_store_tables.specs.declared.database_kinds.TableRows.{TableRows}
 use Rattle.scim_store_tables.specs.declared.database_kinds.DatabaseKind.TheVariants.{WrongVersion as OtherVersion, Foreign as OtherProgram}
 use Rattle.scim_store.specs.declared.examining.Examined.{Examined}
 use Rattle.scim_store.specs.declared.examining.Examined.TheVariants.{Empty, Stands, WrongVersion, Damaged, Foreign}
-use Rattle.scim_store_rows.specs.Audit.{audit_rows}
 use Rattle.scim_store_rows.specs.AuditBack.{IsSound}
 use Rattle.scim_store.specs.Damage.{Tables, HoldsAt, IsLeastDamage}
 use Rattle.scim_store.specs.declared.damage.Judged.{Judged}
@@ -43,16 +40,11 @@ pub record HoldsAtEach (base : List ℕ) (db : Database) : Type 0 where
   pub read : AreRowsOf (shown db) rows
   pub holds : (id : List ℕ) → IsId id → HoldsAt base (resource_tables rows) id
 
--- The number of rows, if they are valid audit rows, numbered consecutively from 1; `None` otherwise.
-abbrev pub CountsAudit : List Row → Option ℕ → Type 0
-CountsAudit rows None = (audit : List AuditRow) → All IsSound audit → audit_rows 1 audit ≢ rows
-CountsAudit rows (Some count) = (audit : List AuditRow) × All IsSound audit × (audit_rows 1 audit ≡ rows) × (length audit ≡ count)
-
--- The result of examining the audit rows, if the rows of resources are valid.
-abbrev pub IsByAudit : List Row → Examined → Type 0
-IsByAudit rows (Stands count) = CountsAudit rows (Some count)
-IsByAudit rows Foreign = CountsAudit rows None
-IsByAudit rows _ = ⊥
+-- The result for tables with valid rows of resources, by the number of audit rows; `None` if the audit rows
+-- aren't valid.
+abbrev pub by_count : Option ℕ → Examined
+by_count (Some count) = Stands count
+by_count None = Foreign
 
 -- The result for tables with further rows of `setting`, by the rows of resources.
 abbrev pub by_judged : Judged → Examined
@@ -75,4 +67,9 @@ IsFor base db Foreign = (Is db OtherProgram ⊎ HoldsAtEach base db) × StandFor
 -- The result is correct for the database, and nothing is changed.
 pub record Examines (base : List ℕ) (old new : State) (examined : Examined) : Type 0 where
   pub is : IsFor base old.now examined
+  pub untouched : IsUntouched old new
+
+-- If these are the rows of resources of the database, the result is correct for it, and nothing is changed.
+pub record ExaminesRows (base : List ℕ) (rows : TableRows) (old new : State) (examined : Examined) : Type 0 where
+  pub is : Are old.now (shown old.now) → AreRowsOf (shown old.now) rows → IsFor base old.now examined
   pub untouched : IsUntouched old new

@@ -7,19 +7,18 @@ ghost use Rattle.sqlite.specs.declared.error.ErrorCode.{ErrorCode};
 ghost use Rattle.sqlite.specs.State.{HasCleanDisk, Survives};
 ghost use Rattle.sqlite.specs.View.{doubt};
 ghost use Rattle.sqlite.specs.Held.{state};
-ghost use Rattle.scim_store_tables.specs.Lists.{Are};
-ghost use Rattle.scim_store_tables.specs.Reading.{Rests, shown};
-ghost use Rattle.scim_store_tables.specs.Whole.{AreRowsOf, Is};
+ghost use Rattle.scim_store_tables.specs.Reading.{Rests, Spares, HasTables};
+ghost use Rattle.scim_store_tables.specs.Whole.{Is};
 ghost use Rattle.scim_store_tables.specs.declared.database_kinds.DatabaseKind.{DatabaseKind};
 ghost use Rattle.scim_store.specs.Damage.{AreOrdered, Judges};
 ghost use Rattle.scim_store.specs.Opening as spec;
 
 use crate::damage::{Judged, ResourceRows, judge};
 use scim_cell::Id;
-use scim_store_rows::are_audit_rows;
+use scim_store_rows::count_audit;
 use scim_store_tables::{DatabaseKind, TableRows, read_tables};
 use scim_text::NoMemory;
-use sqlite::{Alter, Connection, Error, ErrorCode, Row};
+use sqlite::{Alter, Connection, Error, ErrorCode};
 use std::alloc::Global;
 
 /// The result of examining a database as a store of resources with locations below a base URI.
@@ -39,59 +38,57 @@ pub(crate) enum Examined {
     Foreign,
 }
 
-/// Returns the number of audit rows; `None` unless all of them are valid and numbered consecutively from 1.
-fn count_audit(alloc: Global, rows: &[Row]) -> Result<Option<u64>, NoMemory>
-    ensures { IfOk result (spec.CountsAudit rows.now) }
-{
-    match are_audit_rows(alloc, 1, rows)? {
-        Some(audit) => Ok(Some(audit.len() as u64)),
-        None => Ok(None),
-    }
-}
-
-/// Examines the audit rows of a database in which the rows of resources are valid. Fails only with
-/// `OutOfMemory`, if memory runs out.
-fn examine_audit(alloc: Global, rows: &[Row]) -> Result<Examined, Error>
-    ensures examined { IfOk result (spec.IsByAudit rows.now) }
-    ensures memory { IfErr result (λ e. e ≡ Error.SqliteFailure ErrorCode.OutOfMemory) }
-{
-    match count_audit(alloc, rows) {
-        Ok(Some(count)) => Ok(Examined::Stands(count)),
-        Ok(None) => Ok(Examined::Foreign),
-        Err(NoMemory) => Err(Error::SqliteFailure(ErrorCode::OutOfMemory)),
-    }
-}
-
-/// Examines the rows of resources. Fails only with `OutOfMemory`, if memory runs out.
-fn judge_resources(alloc: Global, base: &str, tables: &ResourceRows) -> Result<Judged, Error>
-    ensures judged { AreOrdered tables.now → IfOk result (Judges base.now tables.now) }
-    ensures memory { IfErr result (λ e. e ≡ Error.SqliteFailure ErrorCode.OutOfMemory) }
-{
-    match judge(alloc, base, tables) {
-        Ok(judged) => Ok(judged),
-        Err(NoMemory) => Err(Error::SqliteFailure(ErrorCode::OutOfMemory)),
-    }
-}
-
-/// Examines all rows of the tables. Fails only with `OutOfMemory`, if memory runs out.
-fn examine_rows(alloc: Global, base: &str, rows: TableRows) -> Result<Examined, Error>
-    ensures examined { IfOk result (λ it. (db : Database) → Are db (shown db)
-        → AreRowsOf (shown db) rows → spec.IsFor base.now db it) }
+/// Tests the rows of resources, and frees them. Fails only with `OutOfMemory`, if memory runs out.
+fn judge_rows(alloc: Global, base: &str, rows: TableRows) -> Result<Judged, Error>
+    ensures judged { AreOrdered (spec.resource_tables rows)
+        → IfOk result (Judges base.now (spec.resource_tables rows)) }
     ensures memory { IfErr result (λ e. e ≡ Error.SqliteFailure ErrorCode.OutOfMemory) }
 {
     let TableRows {
         resources,
         names,
         members,
-        audit,
     } = rows;
     let tables = ResourceRows {
         resources,
         names,
         members,
     };
-    match judge_resources(alloc, base, &tables)? {
-        Judged::Sound => examine_audit(alloc, audit.as_slice()),
+    match judge(alloc, base, &tables) {
+        Ok(judged) => Ok(judged),
+        Err(NoMemory) => Err(Error::SqliteFailure(ErrorCode::OutOfMemory)),
+    }
+}
+
+/// Returns the result for tables with valid rows of resources and this number of audit rows, `None` if the
+/// audit rows aren't valid.
+fn of_count(count: Option<u64>) -> Examined
+    ensures { result ≡ spec.by_count count }
+{
+    match count {
+        Some(count) => Examined::Stands(count),
+        None => Examined::Foreign,
+    }
+}
+
+/// Examines the tables whose rows of resources these are: first these rows, and if they are valid the audit
+/// rows, one at a time. Fails with the database's error, or with `OutOfMemory` if memory runs out.
+fn examine_rows<S: Alter>(
+    conn: &mut Connection<S>,
+    alloc: Global,
+    base: &str,
+    rows: TableRows,
+) -> Result<Examined, Error>
+    ensures mode { conn.old.in_transaction ≡ false → conn.new.in_transaction ≡ false }
+    ensures spares { Spares (state S.Store conn.old) (state S.Store conn.new) }
+    ensures examined { HasCleanDisk (state S.Store conn.new) → HasTables (state S.Store conn.old)
+        → IfOk result (spec.ExaminesRows base.now rows
+        (state S.Store conn.old) (state S.Store conn.new)) }
+    ensures rests { HasCleanDisk (state S.Store conn.new) → HasTables (state S.Store conn.old)
+        → OnErr result (Rests (state S.Store conn.old) (state S.Store conn.new)) }
+{
+    match judge_rows(alloc, base, rows)? {
+        Judged::Sound => Ok(of_count(count_audit(conn, alloc)?)),
         Judged::Damaged(id) => Ok(Examined::Damaged(id)),
         Judged::Foreign => Ok(Examined::Foreign),
     }
@@ -104,18 +101,7 @@ fn examine_altered(alloc: Global, base: &str, rows: TableRows) -> Result<Examine
         → spec.IsFor base.now db it) }
     ensures memory { IfErr result (λ e. e ≡ Error.SqliteFailure ErrorCode.OutOfMemory) }
 {
-    let TableRows {
-        resources,
-        names,
-        members,
-        audit: _audit,
-    } = rows;
-    let tables = ResourceRows {
-        resources,
-        names,
-        members,
-    };
-    Ok(of_altered(judge_resources(alloc, base, &tables)?))
+    Ok(of_altered(judge_rows(alloc, base, rows)?))
 }
 
 /// Returns the result for tables with further rows of `setting`, whose rows of resources have this result.
@@ -129,7 +115,8 @@ fn of_altered(judged: Judged) -> Examined
 }
 
 /// Examines a database as a store of resources with locations below the base URI. Reads all rows, in time
-/// nearly linear in their number.
+/// nearly linear in their number. Holds the rows of resources until they are examined, and one audit row at a
+/// time.
 ///
 /// Fails with the database's error, or with `OutOfMemory` if memory runs out. Also fails if a key isn't a
 /// number. Then the connection is closed, or its database is unchanged or as the last commit left it.
@@ -152,6 +139,6 @@ pub(crate) fn examine<S: Alter>(
         DatabaseKind::WrongVersion => Ok(Examined::WrongVersion),
         DatabaseKind::Foreign => Ok(Examined::Foreign),
         DatabaseKind::Altered(rows) => examine_altered(alloc, base, rows),
-        DatabaseKind::Tables(rows) => examine_rows(alloc, base, rows),
+        DatabaseKind::Tables(rows) => examine_rows(conn, alloc, base, rows),
     }
 }

@@ -150,7 +150,8 @@ impl<S: Alter> SqlShelf<S> {
 
     /// Opens a database as a store of resources with locations below the base URI. If it is empty, the tables
     /// are created in one transaction. Otherwise all rows are read and checked, in time nearly linear in
-    /// their number.
+    /// their number. The audit rows are read one at a time, and all other rows are held until they are
+    /// checked.
     ///
     /// Fails with `WrongVersion` if the tables are of another version, with `Damaged` if an id has rows, but
     /// not exactly the rows of one valid resource, and with `Store` if the database belongs to another

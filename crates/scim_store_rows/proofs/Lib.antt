@@ -10,3 +10,4 @@ pub mod SpanLemmas
 pub mod Facts
 pub mod BackLemmas
 pub mod ReadLemmas
+pub mod CountLemmas

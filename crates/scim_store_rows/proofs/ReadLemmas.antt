@@ -16,7 +16,7 @@ length-audit_rows n (r ∷ rs) = ap suc (length-audit_rows (n + 1) rs)
 
 -- ---- row by row
 
-append-audit_rows : (first n : ℕ) (rs : List AuditRow) (r : AuditRow) → n ≡ first + length rs → audit_rows first (rs ++ r ∷ []) ≡ audit_rows first rs ++ audit_row n r ∷ []
+pub append-audit_rows : (first n : ℕ) (rs : List AuditRow) (r : AuditRow) → n ≡ first + length rs → audit_rows first (rs ++ r ∷ []) ≡ audit_rows first rs ++ audit_row n r ∷ []
 append-audit_rows first n [] r is = ap (λ k. let rows : List Row = audit_row k r ∷ [] in rows) (let same : first ≡ n = omega (arith, is) in same)
 append-audit_rows first n (s ∷ rs) r is = ap (λ (rows : List Row). audit_row first s ∷ rows) (append-audit_rows (first + 1) n rs r (omega (arith, is)))
 

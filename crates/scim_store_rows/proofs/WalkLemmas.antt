@@ -29,7 +29,8 @@ use Rattle.std.specs.List.Sorted.{IsStrictlySortedBy}
 use Rattle.scim_cell.specs.Kinds.{is_of, of_kind}
 use Rattle.scim_shelf.specs.Stores.{Store}
 use Rattle.scim_shelf.specs.Shelves.{TookPrefix}
-use Rattle.scim_store_tables.specs.Asks.{asked}
+use Rattle.sqlite.specs.Query.{Query}
+use Rattle.scim_store_tables.specs.Asks.{asked, IsAsk}
 use Rattle.scim_store_tables.specs.Lists.{triple}
 use Rattle.scim_store_tables.specs.Reading.{HasTables, Tells}
 use Rattle.scim_store_tables.proofs.Facts.{resources_text, asks_resources}
@@ -78,7 +79,7 @@ folds_then : {P A : Type 0} (R : P → A → P → Type 0) (p q u : P) (xs ys : 
 folds_then R p q u [] ys before next = subst (λ x. FoldsTo R x ys u) (sym before) next
 folds_then R p q u (x ∷ xs) ys before next = (before.0, before.1, folds_then R before.0 q u xs ys before.2 next)
 
-unchanged_itself : (a b : State) → IsUnchanged a b → IsUnchanged b b
+pub unchanged_itself : (a b : State) → IsUnchanged a b → IsUnchanged b b
 unchanged_itself a b same = (
   record { was_open = same.0.is_open; is_open = same.0.is_open; now_is = refl; committed_is = refl; mode = refl },
   record { changes = refl; last_rowid = refl },
@@ -171,12 +172,12 @@ same_err (Err f) e P is h = subst P (sym is) h
 pub took_nothing : {V : Type 0} (Takes : V → Content → V → Type 0) (cs : List Content) (v : V) → TookPrefix Takes v cs v
 took_nothing Takes cs v = record { taken = []; left = cs; whole = refl; took = refl }
 
--- the query is at its start, since it writes nothing
-pub begun_here : {S : Type 0} (g : store.Ghosts S) (old new : Held S) → HasTables (state g old) → HasBegun g resources_text [] old new → HasGiven g resources_text [] new [] × IsUnchanged (state g old) (state g new)
-begun_here g old new has (inl h) = h
-begun_here g old new has (inr h) =
-    let schema = has (shown_open resources_text [] (state g old) (state g new) _ h.1) in
-    begun_plain g resources_text [] old new (subst (λ s. IsPlain (understood s resources_text)) (sym schema) asks_resources.plain) (inr h)
+-- a query is at its start, since it writes nothing
+pub begun_here : {S : Type 0} (g : store.Ghosts S) (text : List ℕ) (q : Query) → IsAsk text q → (old new : Held S) → HasTables (state g old) → HasBegun g text [] old new → HasGiven g text [] new [] × IsUnchanged (state g old) (state g new)
+begun_here g text q is old new has (inl h) = h
+begun_here g text q is old new has (inr h) =
+    let schema = has (shown_open text [] (state g old) (state g new) _ h.1) in
+    begun_plain g text [] old new (subst (λ s. IsPlain (understood s text)) (sym schema) is.plain) (inr h)
 
 -- the tables are those of a store
 pub stands_tables : (base : List ℕ) (s : State) (store : Store) → StandsIn base s store → HasTables s

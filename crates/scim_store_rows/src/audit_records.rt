@@ -62,7 +62,7 @@ pub(crate) fn read_audit_row(
 
 /// Reads audit rows from rows of the table; `None` if a row isn't valid, or if the rows aren't numbered
 /// consecutively from `first`. The refusal `BadMethod` is returned with the methods of a collection.
-pub fn are_audit_rows(
+pub(crate) fn are_audit_rows(
     alloc: Global,
     first: u64,
     rows: &[Row],

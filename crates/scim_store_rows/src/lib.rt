@@ -3,6 +3,7 @@
 #![tactic(auto)]
 
 mod audit_columns;
+mod audit_counting;
 mod audit_fields;
 mod audit_numbers;
 mod audit_reading;
@@ -13,8 +14,8 @@ mod old_resources;
 mod walks;
 
 pub use audit_columns::{AuditTexts, columns_of, kind_number};
+pub use audit_counting::count_audit;
 pub use audit_reading::{LAST_NUMBER, read_audit_rows};
-pub use audit_records::are_audit_rows;
 pub use look_ups::{find_by_id, find_groups_with, find_owner_of_name};
 pub use old_resources::find_old;
 pub use walks::walk;

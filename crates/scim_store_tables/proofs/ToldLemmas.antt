@@ -16,7 +16,7 @@ use Rattle.scim_store_tables.proofs.StepLemmas.{if_then, both_then, any_err}
 
 -- ---- nothing is changed
 
-both_unchanged : (a b c : State) → IsUnchanged a b → IsUnchanged b c → IsUnchanged a c
+pub both_unchanged : (a b c : State) → IsUnchanged a b → IsUnchanged b c → IsUnchanged a c
 both_unchanged a b c first second = (
   record {
     was_open = first.0.was_open;
@@ -43,7 +43,7 @@ rests_behind a b c same rests = record {
     go (inl e) = inl (e ∙ same.0.now_is)
     go (inr e) = inr (e ∙ same.0.committed_is)
 
-err_behind : {T : Type 0} (a b c : State) (r : Result T Error) → IsUnchanged a b → OnErr r (Rests b c) → OnErr r (Rests a c)
+pub err_behind : {T : Type 0} (a b c : State) (r : Result T Error) → IsUnchanged a b → OnErr r (Rests b c) → OnErr r (Rests a c)
 err_behind a b c (Ok x) same rests = tt
 err_behind a b c (Err e) same rests = rests_behind a b c same rests
 

@@ -5,14 +5,15 @@ use Rattle.std.specs.List.{AllByRecursion}
 use Rattle.std.proofs.lemmas.List.Sorted.{IsPermutation-sym, IsPermutation-trans, IsPermutation-refl, IsPermutation-map, length_permutation, Contains-permutation}
 use Rattle.sqlite.specs.Effect.{Database}
 use Rattle.sqlite.specs.Order.{Row, column}
+use Rattle.sqlite.specs.Schema.{Schema}
 use Rattle.sqlite.specs.State.{State, IsUnchanged}
 use Rattle.scim_store_tables.specs.Tables.{store_schema}
 use Rattle.scim_store_tables.specs.Lists.{Lists, Are, version_values, pair, triple}
 use Rattle.scim_store_tables.specs.Reading.{shown, shown_settings, owner_first, group_first}
-use Rattle.scim_store_tables.specs.Whole.{NamesVersion, HasFurtherSettings, HasVersion, AreAllKeyed, AreInOrder, AreRowsOf, IsByRows, IsReading, Is, AreNone}
+use Rattle.scim_store_tables.specs.Whole.{NamesVersion, HasFurtherSettings, HasVersion, AreAllKeyed, AreInOrder, AreRowsOf, IsByNames, IsByRows, IsReading, Is, AreNone}
 use Rattle.scim_store_tables.specs.declared.database_kinds.TableRows.{TableRows}
 use Rattle.scim_store_tables.specs.declared.database_kinds.DatabaseKind.{DatabaseKind}
-use Rattle.scim_store_tables.specs.declared.database_kinds.DatabaseKind.TheVariants.{WrongVersion, Foreign, Altered}
+use Rattle.scim_store_tables.specs.declared.database_kinds.DatabaseKind.TheVariants.{WrongVersion, Foreign, Altered, Tables}
 
 -- ---- the settings
 
@@ -55,6 +56,10 @@ is_reading old new reading has told = record {
   is = inr (has, told.1);
   untouched = record { was_open = λ _. told.0.0.was_open; unchanged = λ _. told.0 };
 }
+
+-- the names of the tables alone never tell that they have rows
+pub names_no_tables : {A : Type 0} (schema : Schema) (kind : DatabaseKind) (rows : TableRows) → IsByNames schema kind → kind ≡ Tables rows → A
+names_no_tables schema kind rows by is = absurd (subst (IsByNames schema) is by)
 
 -- ---- a database that has no rows of ours
 
@@ -103,7 +108,6 @@ rows_of db lists rows are read = record {
   resources = reordered (shown db).resources lists.resources _ are.resources.same read.resources;
   names = reordered _ _ _ (IsPermutation-map owner_first (shown db).taken lists.taken are.taken.same) read.names;
   members = reordered _ _ _ (IsPermutation-map group_first (shown db).member lists.member are.member.same) read.members;
-  audit = reordered (shown db).audit lists.audit _ are.audit read.audit;
 }
   where
     reordered : {places : List ℕ} (one other rows : List Row) → IsPermutation one other → AreInOrder places one rows → AreInOrder places other rows
@@ -141,9 +145,9 @@ pairs : (rows : List Row) → ArePairs (map pair rows)
 pairs [] = tt
 pairs (r ∷ rows) = (refl, pairs rows)
 
--- the database holds each lists whose rows were read
-pub holds_lists : (db : Database) (lists : Lists) (rows : TableRows) → AreTriples lists.taken → ArePairs lists.member → Are db (shown db) → AreRowsOf (shown db) rows → AreRowsOf lists rows → Are db lists
-holds_lists db lists rows three two are read told = record {
+-- the database holds each lists whose rows were read, and whose audit it shows
+pub holds_lists : (db : Database) (lists : Lists) (rows : TableRows) → AreTriples lists.taken → ArePairs lists.member → Are db (shown db) → AreRowsOf (shown db) rows → AreRowsOf lists rows → IsPermutation (shown db).audit lists.audit → Are db lists
+holds_lists db lists rows three two are read told audit = record {
   schema = are.schema;
   version = are.version;
   resources = record { keys = are.resources.keys; same = alike read.resources.same told.resources.same };
@@ -155,7 +159,7 @@ holds_lists db lists rows three two are read told = record {
     keys = are.member.keys;
     same = subst₂ IsPermutation (members_back (shown db).member (pairs (db.trees 6))) (members_back lists.member two) (IsPermutation-map group_last _ _ (alike read.members.same told.members.same));
   };
-  audit = alike read.audit.same told.audit.same;
+  audit = audit;
 }
   where
     alike : {one other rows : List Row} → IsPermutation one rows → IsPermutation other rows → IsPermutation one other

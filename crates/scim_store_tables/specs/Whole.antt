@@ -1,4 +1,4 @@
--- The classification of a database, and all rows of its tables.
+-- The classification of a database, and the rows of its resources.
 use Rattle.std.specs.Prelude.{◌≡◌, ◌≢◌, ◌⊎◌, ℕ, Bool, false, true, ◌||◌, IsTrue, codes, List, [], ◌∷◌, map, Contains, IsPermutation}
 use Rattle.std.specs.List.{list_any}
 use Rattle.sqlite.specs.Effect.{Database}
@@ -54,13 +54,12 @@ pub record AreInOrder (places : List ℕ) (values rows : List Row) : Type 0 wher
   pub same : IsPermutation values rows
   pub order : DoNotFall places rows
 
--- `rows` has the rows of `lists`, sorted: resources by id, names by owner, attribute and text, members by
--- group and value, and audit rows by number.
+-- `rows` has the rows of resources of `lists`, sorted: resources by id, names by owner, attribute and text, and
+-- members by group and value.
 pub record AreRowsOf (lists : Lists) (rows : TableRows) : Type 0 where
   pub resources : AreInOrder (0 ∷ []) lists.resources rows.resources.items
   pub names : AreInOrder (0 ∷ 1 ∷ 2 ∷ []) (map owner_first lists.taken) rows.names.items
   pub members : AreInOrder (0 ∷ 1 ∷ []) (map group_first lists.member) rows.members.items
-  pub audit : AreInOrder (0 ∷ []) lists.audit rows.audit.items
 
 -- ---- the result of reading
 
@@ -93,7 +92,7 @@ IsOther db reading = ((has_setting db.schema ≡ true) × IsBySetting db reading
 
 -- The classification by rows of a database with the five tables: `WrongVersion` if `setting` doesn't have the
 -- row of version 1; `Foreign` if a row has no key or a key occurs twice, which never happens in a valid file;
--- `Altered` with the rows of the other tables if `setting` has further rows; and `Tables` with them otherwise.
+-- `Altered` with the rows of resources if `setting` has further rows; and `Tables` with them otherwise.
 abbrev pub IsByRows : Database → DatabaseKind → Type 0
 IsByRows db Empty = ⊥
 IsByRows db WrongVersion = ¬ NamesVersion db

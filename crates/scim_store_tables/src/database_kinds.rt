@@ -1,4 +1,5 @@
-//! Classifies a database by its schema and its rows, and reads the rows if it has the tables of version 1.
+//! Classifies a database by its schema and its rows, and reads the rows of resources if it has the tables of
+//! version 1.
 
 ghost use Rattle.std.specs.Prelude.{◌≡◌, ◌≢◌, ◌≤◌, ◌∷◌, [], false, true, pos, Contains, IfOk, OnErr, IsTrue};
 ghost use Rattle.sqlite_value.specs.Value.{owned};
@@ -9,6 +10,8 @@ ghost use Rattle.sqlite.specs.Held.{state};
 ghost use Rattle.scim_store_tables.specs.Lists.{version_values};
 ghost use Rattle.scim_store_tables.specs.Looking.{BeginsWithOne};
 ghost use Rattle.scim_store_tables.specs.Tables.{no_schema};
+ghost use Rattle.scim_store_tables.specs.declared.database_kinds.TableRows.{TableRows};
+ghost use Rattle.scim_store_tables.specs.declared.database_kinds.DatabaseKind.TheVariants.{Tables};
 ghost use Rattle.scim_store_tables.specs.Whole as spec;
 ghost use Rattle.scim_store_tables.specs.Reading.{Rests, shown};
 ghost use Rattle.scim_store_tables.specs.code.Told.{OnlyAsks, OnlyLooks, TellsOne, IsRefusal, Decides, DecidesKeyed};
@@ -23,7 +26,7 @@ use sqlite::{Alter, Connection, Error, ErrorCode, Row};
 use sqlite_schema::names::same_name;
 use sqlite_schema::schema::Schema;
 
-/// All rows of the tables, sorted. The types of the columns aren't checked.
+/// All rows of `resource`, `taken` and `member`, sorted. The types of the columns aren't checked.
 #[derive(Drop)]
 pub struct TableRows {
     /// The columns id, kind and document of each resource, sorted by id.
@@ -32,8 +35,6 @@ pub struct TableRows {
     pub names: Vec<Row>,
     /// The columns group and value of each member, sorted by them in this order.
     pub members: Vec<Row>,
-    /// All columns of the audit rows, sorted by number.
-    pub audit: Vec<Row>,
 }
 
 /// The classification of a database.
@@ -45,9 +46,9 @@ pub enum DatabaseKind {
     WrongVersion,
     /// It belongs to another program, was changed by one, or is damaged.
     Foreign,
-    /// It has the tables of version 1, but `setting` has further rows. The other tables have these rows.
+    /// It has the tables of version 1, but `setting` has further rows. The tables of resources have these rows.
     Altered(TableRows),
-    /// It has the tables of version 1, with these rows.
+    /// It has the tables of version 1, with these rows of resources. The audit isn't read.
     Tables(TableRows),
 }
 
@@ -237,7 +238,7 @@ fn are_all_keyed<S: Alter>(conn: &mut Connection<S>) -> Result<bool, Error>
     are_keyed(conn, Table::Member)
 }
 
-/// Reads all rows of the tables except `setting`. The schema must have exactly the five tables.
+/// Reads all rows of the tables except `setting` and `audit`. The schema must have exactly the five tables.
 fn read_all_rows<S: Alter>(conn: &mut Connection<S>) -> Result<TableRows, Error>
     ensures { OnlyAsks (λ db. AreRowsOf (shown db)) (state S.Store conn.old)
         (state S.Store conn.new) result }
@@ -245,12 +246,10 @@ fn read_all_rows<S: Alter>(conn: &mut Connection<S>) -> Result<TableRows, Error>
     let resources = read_rows(conn, Table::Resource)?;
     let names = read_rows(conn, Table::Taken)?;
     let members = read_rows(conn, Table::Member)?;
-    let audit = read_rows(conn, Table::Audit)?;
     Ok(TableRows {
         resources,
         names,
         members,
-        audit,
     })
 }
 
@@ -272,8 +271,8 @@ fn reading_by_rows<S: Alter>(conn: &mut Connection<S>) -> Result<DatabaseKind, E
     Ok(DatabaseKind::Tables(rows))
 }
 
-/// Reads the rows of a database that has the tables of version 1, and classifies any other database as
-/// `Empty`, `WrongVersion` or `Foreign`.
+/// Reads the rows of resources of a database that has the tables of version 1, and classifies any other
+/// database as `Empty`, `WrongVersion` or `Foreign`. Reads no audit rows.
 ///
 /// A database without tables, indexes and views is `Empty`. A database with the schema of version 1 is
 /// `WrongVersion` if `setting` doesn't have the row of version 1; else `Foreign` if a key occurs twice, which
@@ -296,6 +295,9 @@ pub fn read_tables<S: Alter>(conn: &mut Connection<S>) -> Result<DatabaseKind, E
     ensures survives { Survives (state S.Store conn.old) (state S.Store conn.new) (λ _. ⊥) }
     ensures read { HasCleanDisk (state S.Store conn.new)
         → IfOk result (IsReading (state S.Store conn.old) (state S.Store conn.new)) }
+    ensures opened { HasCleanDisk (state S.Store conn.new)
+        → IfOk result (λ kind. (rows : TableRows) → kind ≡ Tables rows
+        → IsTrue (state S.Store conn.old).is_open) }
     ensures rests { HasCleanDisk (state S.Store conn.new)
         → OnErr result (Rests (state S.Store conn.old) (state S.Store conn.new)) }
 {

@@ -17,6 +17,7 @@ pub use audit::{AuditColumns, insert_audit};
 pub use creating_tables::{create_tables, make_tables};
 pub use database_kinds::{DatabaseKind, TableRows, is_empty_database, read_tables};
 pub use foreign_objects::{ForeignObject, foreign_object};
+pub use queries::{Table, rows_query};
 pub use schema::is_store_schema;
 pub use writes::{
     delete_member, delete_name, delete_resource, insert_member, insert_name, insert_resource,

@@ -5,7 +5,7 @@ ghost use Rattle.scim_store_tables.specs.Asks.{IsAsk};
 
 /// One of the five tables.
 #[derive(Clone, Copy)]
-pub(crate) enum Table {
+pub enum Table {
     /// The settings of the file. There is only one: the version of the tables.
     Setting,
     /// The resources with their documents.
@@ -23,7 +23,7 @@ pub(crate) enum Table {
 /// Resources are sorted by id and kind, not by id alone, so that the database scans the table and sorts.
 /// Sorting by id alone would follow the index of the key and look up each row in the table. The rows aren't
 /// stored in order of id, so each look-up would read a page.
-pub(crate) fn rows_query(table: Table) -> &'static str
+pub fn rows_query(table: Table) -> &'static str
     ensures { IsAsk result.now (spec.rows_query table) }
 {
     match table {

@@ -4,7 +4,7 @@ use Rattle.sqlite.specs.Held.{state}
 use Rattle.sqlite.specs.Given.{row_if, IsRefused}
 use Rattle.sqlite.proofs.Callers.{unchanged_then, given_begin}
 use Rattle.scim_cell.specs.Kinds.{of_kind}
-use Rattle.scim_store_tables.proofs.Facts.{resources_text}
+use Rattle.scim_store_tables.proofs.Facts.{resources_text, asks_resources}
 use Rattle.scim_store_tables.proofs.Facts.{failed_rests, unchanged_rests}
 use Rattle.scim_shelf.specs.Stores.{Store}
 use Rattle.scim_shelf.specs.Shelves.{TookPrefix}
@@ -20,7 +20,7 @@ rows-init g c =
       same_reference = refl;
       mode = made.mode;
       clean = omega (arith, made.survives.clean);
-      given = ([], (λ store stands clean. begun_here g.S.Store c.args.conn.now c.in_ok-rows.rows.conn.now (stands_tables c.args.base.now (state g.S.Store c.args.conn.now) store stands) (made.begun clean)), took_none g.V.Visitor.takes c.args.base.now c.args.kind c.args.visitor.now);
+      given = ([], (λ store stands clean. begun_here g.S.Store resources_text _ asks_resources c.args.conn.now c.in_ok-rows.rows.conn.now (stands_tables c.args.base.now (state g.S.Store c.args.conn.now) store stands) (made.begun clean)), took_none g.V.Visitor.takes c.args.base.now c.args.kind c.args.visitor.now);
     }
 
 pub rows-preserved : goal.rows-preserved

@@ -19,23 +19,12 @@ returns-in_err-members g c =
     told_failed _ _ old d c.in_err-members.field-0.0 c.from_residual-in_err-members.result c.from_residual-in_err-members.ensures.0
     (told_both _ _ old a d _ _ c.in_ok-resources.ensures (told_both _ _ a b d _ _ c.in_ok-names.ensures c.in_err-members.ensures))
 
-pub returns-in_err-audit : goal.returns-in_err-audit
-returns-in_err-audit g c =
-    let old = state g.S.Store c.args.conn.now in
-    let a = state g.S.Store c.read_rows.new.conn in
-    let b = state g.S.Store c.read_rows-2.new.conn in
-    let d = state g.S.Store c.read_rows-3.new.conn in
-    let new = state g.S.Store c.read_rows-4.new.conn in
-    told_failed _ _ old new c.in_err-audit.field-0.0 c.from_residual-in_err-audit.result c.from_residual-in_err-audit.ensures.0
-    (told_both _ _ old a new _ _ c.in_ok-resources.ensures (told_both _ _ a b new _ _ c.in_ok-names.ensures (told_both _ _ b d new _ _ c.in_ok-members.ensures c.in_err-audit.ensures)))
-
 pub returns : goal.returns
 returns g c =
     let old = state g.S.Store c.args.conn.now in
     let a = state g.S.Store c.read_rows.new.conn in
     let b = state g.S.Store c.read_rows-2.new.conn in
-    let d = state g.S.Store c.read_rows-3.new.conn in
-    let new = state g.S.Store c.read_rows-4.new.conn in
-    told_as _ _ old new c.in_ok-audit.audit _
-    (told_both _ _ old a new _ _ c.in_ok-resources.ensures (told_both _ _ a b new _ _ c.in_ok-names.ensures (told_both _ _ b d new _ _ c.in_ok-members.ensures c.in_ok-audit.ensures)))
-    (λ schema all. record { resources = all.0; names = all.1.0; members = all.1.1.0; audit = all.1.1.1 })
+    let new = state g.S.Store c.read_rows-3.new.conn in
+    told_as _ _ old new c.in_ok-members.members _
+    (told_both _ _ old a new _ _ c.in_ok-resources.ensures (told_both _ _ a b new _ _ c.in_ok-names.ensures c.in_ok-members.ensures))
+    (λ schema all. record { resources = all.0; names = all.1.0; members = all.1.1 })

@@ -3,7 +3,7 @@ use Rattle.sqlite.specs.Held.{state}
 use Rattle.sqlite.proofs.StateLemmas.{survives_weaker}
 use Rattle.scim_store_tables.specs.Tables.{store_schema}
 use Rattle.scim_store_tables.proofs.StepLemmas.{if_then}
-use Rattle.scim_store_tables.proofs.WholeLemmas.{is_reading}
+use Rattle.scim_store_tables.proofs.WholeLemmas.{is_reading, names_no_tables}
 use Rattle.scim_store_tables.proofs.database_kinds.read_tables.Goals as goal
 
 pub returns-then-is_store_schema-clause-survives : goal.returns-then-is_store_schema-clause-survives
@@ -22,3 +22,15 @@ pub returns-then-is_store_schema-clause-rests : goal.returns-then-is_store_schem
 returns-then-is_store_schema-clause-rests g c clean =
     let has : (state g.S.Store c.args.conn.now).now.schema ≡ store_schema = search rules in
     c.reading_by_rows.ensures.rests clean (λ _. has)
+
+pub returns-then-is_store_schema-clause-opened : goal.returns-then-is_store_schema-clause-opened
+returns-then-is_store_schema-clause-opened g c clean =
+    let has : (state g.S.Store c.args.conn.now).now.schema ≡ store_schema = search rules in
+    if_then c.reading_by_rows.result _ _ (λ kind told rows is. told.0.0.was_open) (c.reading_by_rows.ensures.told clean (λ _. has))
+
+pub returns-then-has_table-clause-opened : goal.returns-then-has_table-clause-opened
+returns-then-has_table-clause-opened g c clean =
+    if_then c.reading_by_setting.result _ _ (λ kind told rows is. told.0.0.was_open) (c.reading_by_setting.ensures.told clean)
+
+pub returns-clause-opened : goal.returns-clause-opened
+returns-clause-opened g c clean = λ rows is. names_no_tables c.schema-3.result.now c.reading_by_names.result rows c.reading_by_names.ensures is
