@@ -17,22 +17,22 @@ use Rattle.scim_wire.specs.Chunked.{IsLine, IsLineOf, AreTrailers, Follows, Chun
 use Rattle.scim_wire.specs.ChunkParts.{StandsFor}
 use Rattle.scim_wire.specs.code.ChunkSteps.{StandsAt}
 use Rattle.scim_wire.proofs.FrontLemmas.{NoneIsFront, All-at, whole_whole, whole_front, whole_dead, dead_front, dead_dead}
-use Rattle.scim_wire.proofs.ChunkStepLemmas.{data_part, trailers_part}
+use Rattle.scim_wire.proofs.ChunkStepLemmas.{line_part, data_part, trailers_part}
 
 -- ---- what is kept is of a part
 
-standing_part : (place : Place) (body line bytes : List ℕ) → StandsAt place body line bytes → IsChunkedPart bytes
-standing_part Line body line bytes stands = (body, line, stands.0, inl stands.1)
-standing_part (Data left) body line bytes stands = data_by_left left stands
+standing_part : (place : Place) (body bytes : List ℕ) → StandsAt place body bytes → IsChunkedPart bytes
+standing_part (Line part) body bytes stands = line_part bytes body part stands
+standing_part (Data left) body bytes stands = data_by_left left stands
   where
-    data_by_left : (left : ℕ) → StandsAt (Data left) body line bytes → IsChunkedPart bytes
+    data_by_left : (left : ℕ) → StandsAt (Data left) body bytes → IsChunkedPart bytes
     data_by_left zero stands = data_part bytes body 0 [] 13 (10 ∷ []) stands refl
     data_by_left (suc left) stands = data_part bytes body (suc left) [] 0 _ stands refl
-standing_part Return body line bytes stands = data_part bytes body 0 (13 ∷ []) 10 [] stands refl
-standing_part (Trailers part) body line bytes stands = trailers_part bytes body part stands
+standing_part Return body bytes stands = data_part bytes body 0 (13 ∷ []) 10 [] stands refl
+standing_part (Trailers part) body bytes stands = trailers_part bytes body part stands
 
 pub part_of_standing : (part : ChunkedPart) (bytes : List ℕ) → StandsFor part bytes → IsChunkedPart bytes
-part_of_standing part bytes stands = standing_part part.place part.body.items part.line.items bytes stands
+part_of_standing part bytes stands = standing_part part.place part.body.items bytes stands
 
 -- ---- lines, data and trailers end at one place
 

@@ -4,11 +4,13 @@ use Rattle.std.proofs.lemmas.List.{append-nil, append_assoc, length-append, leng
 use Rattle.std.proofs.lemmas.List.Elements.{All-nil, All-push}
 use Rattle.std.proofs.lemmas.List.Concat.{flat_map-append}
 use Rattle.scim_wire.specs.declared.chunk_faults.BadChunks.TheVariants.{Malformed}
+use Rattle.scim_wire.specs.declared.chunk_lines.LinePart.{LinePart}
 use Rattle.scim_wire.specs.declared.trailers.TrailerPart.{TrailerPart}
 use Rattle.scim_wire.specs.Fronts.{IsFrontOf, CanNotBegin}
 use Rattle.scim_wire.specs.Chunked.{IsLine, IsLineOf, AreTrailers, Follows, Chunk, IsChunk, print_chunks, content, HasChunks, IsChunked, IsChunkedPart, IsBadChunked}
+use Rattle.scim_wire.specs.code.ChunkLines as lines
 use Rattle.scim_wire.specs.code.Trailers.{IsRest, GoesOn}
-use Rattle.scim_wire.specs.code.ChunkSteps.{IsInData, IsInTrailers}
+use Rattle.scim_wire.specs.code.ChunkSteps.{IsInLine, IsInData, IsInTrailers}
 use Rattle.scim_wire.proofs.FrontLemmas.{two_fronts}
 
 -- no chunk yet
@@ -31,13 +33,54 @@ chunks_more bytes body rest more has = record {
 
 -- ---- in a line
 
-pub line_more : (bytes body old new : List ℕ) (byte : ℕ) → new ≡ old ++ byte ∷ [] → HasChunks bytes body old → HasChunks (bytes ++ byte ∷ []) body new
-line_more bytes body old new byte is has = chunks_same _ body _ new (sym is) (chunks_more bytes body old (byte ∷ []) has)
+-- before the first byte of a line
+pub line_begins : (bytes body : List ℕ) (part : LinePart) → HasChunks bytes body []
+    → ((size : ℕ) (text : List ℕ) → IsLineOf size text ↔ lines.IsRest part size text) → lines.GoesOn part → IsInLine bytes body part
+line_begins bytes body part has rest goes_on = record { line = []; chunks = has; rest = rest; goes_on = goes_on }
 
-pub line_bad : (bytes body old new : List ℕ) (byte : ℕ) → new ≡ old ++ byte ∷ [] → HasChunks bytes body old → IsFrontOf IsLine old → CanNotBegin IsLine new
-    → IsBadChunked (bytes ++ byte ∷ []) Malformed
-line_bad bytes body old new byte is has could never =
-    (body, new, line_more bytes body old new byte is has, inl (record { before = old; last = byte; split = is; could = could; can_not = never }))
+after_line : (line more : List ℕ) (byte : ℕ) → (line ++ byte ∷ []) ++ more ≡ line ++ byte ∷ more
+after_line line more byte = append_assoc line (byte ∷ []) more
+
+line_open : (bytes body : List ℕ) (part : LinePart) (in_line : IsInLine bytes body part) → IsFrontOf IsLine in_line.line
+line_open bytes body part in_line =
+    let (size, next, more, rest) = in_line.goes_on in
+    (next, more, (size, (in_line.rest size (next ∷ more)).1 rest))
+
+pub line_more : (bytes body : List ℕ) (part next : LinePart) (byte : ℕ) → IsInLine bytes body part
+    → ((size : ℕ) (text : List ℕ) → lines.IsRest part size (byte ∷ text) ↔ lines.IsRest next size text) → lines.GoesOn next
+    → IsInLine (bytes ++ byte ∷ []) body next
+line_more bytes body part next byte in_line steps goes_on = record {
+  line = in_line.line ++ byte ∷ [];
+  chunks = chunks_more bytes body in_line.line (byte ∷ []) in_line.chunks;
+  rest = λ size more. (
+    λ is. (steps size more).0 ((in_line.rest size (byte ∷ more)).0 (subst (IsLineOf size) (after_line in_line.line more byte) is)),
+    λ rest. subst (IsLineOf size) (sym (after_line in_line.line more byte)) ((in_line.rest size (byte ∷ more)).1 ((steps size more).1 rest)),
+  );
+  goes_on = goes_on;
+}
+
+pub line_whole : (bytes body : List ℕ) (part : LinePart) (byte size : ℕ) → IsInLine bytes body part → lines.IsRest part size (byte ∷ [])
+    → (line : List ℕ) × HasChunks (bytes ++ byte ∷ []) body line × IsLineOf size line
+line_whole bytes body part byte size in_line rest =
+    (in_line.line ++ byte ∷ [], chunks_more bytes body in_line.line (byte ∷ []) in_line.chunks, (in_line.rest size (byte ∷ [])).1 rest)
+
+pub line_bad : (bytes body : List ℕ) (part : LinePart) (byte : ℕ) → IsInLine bytes body part
+    → ((size : ℕ) (text : List ℕ) → lines.IsRest part size (byte ∷ text) → ⊥) → IsBadChunked (bytes ++ byte ∷ []) Malformed
+line_bad bytes body part byte in_line never = (
+  body,
+  in_line.line ++ byte ∷ [],
+  chunks_more bytes body in_line.line (byte ∷ []) in_line.chunks,
+  inl (record {
+    before = in_line.line;
+    last = byte;
+    split = refl;
+    could = line_open bytes body part in_line;
+    can_not = λ more is. never is.0 more ((in_line.rest is.0 (byte ∷ more)).0 (subst (IsLineOf is.0) (after_line in_line.line more byte) is.1));
+  }),
+)
+
+pub line_part : (bytes body : List ℕ) (part : LinePart) → IsInLine bytes body part → IsChunkedPart bytes
+line_part bytes body part in_line = (body, in_line.line, in_line.chunks, inl (line_open bytes body part in_line))
 
 -- ---- after a line
 

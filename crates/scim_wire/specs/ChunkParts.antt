@@ -9,7 +9,7 @@ use Rattle.scim_wire.specs.code.ChunkSteps.{StandsAt}
 
 -- the part has the state that results from reading these bytes, which don't finish the body
 abbrev pub StandsFor : ChunkedPart → List ℕ → Type 0
-StandsFor part bytes = StandsAt part.place part.body.items part.line.items bytes
+StandsFor part bytes = StandsAt part.place part.body.items bytes
 
 -- the result of reading these bytes: the state of an unfinished body, the content of a finished body, or the
 -- fault if the last byte makes the body invalid

@@ -6,7 +6,7 @@ ghost use Rattle.scim_wire.specs.ChunkParts.{StandsFor, Leads};
 ghost use Rattle.scim_wire.specs.code.ChunkSteps.{StandsAt};
 
 use crate::chunk_faults::BadChunks;
-use crate::chunk_lines::{BadLine, judge_line};
+use crate::chunk_lines::{LinePart, LineStep};
 use crate::trailers::{Trailed, TrailerPart};
 use scim_schema::MAX_BODY;
 use scim_text::{Failed, NoMemory};
@@ -16,7 +16,7 @@ use std::alloc::Global;
 #[derive(Clone, Copy)]
 enum Place {
     /// In a chunk line.
-    Line,
+    Line(LinePart),
     /// In the data of a chunk, of which this many bytes are missing. CR LF follows the data.
     Data(u64),
     /// After the CR that follows a chunk's data.
@@ -27,14 +27,12 @@ enum Place {
 
 /// The part of a chunked body that was read so far.
 ///
-/// Allocates memory only for the bytes received, not for the size that a chunk line announces. At each byte
-/// of a chunk line, the line is parsed again from its start (at most 1,024 bytes). Any other byte takes
-/// constant time.
+/// Allocates memory only for the data received, not for the size that a chunk line announces. Each byte of a
+/// chunk line and of the trailers takes constant time, and none of them is kept.
 #[derive(Drop)]
 pub struct ChunkedPart {
     place: Place,
     body: Vec<u8>,
-    line: Vec<u8>,
 }
 
 /// The result of reading one byte.
@@ -52,9 +50,8 @@ impl ChunkedPart {
         ensures { StandsFor result [] }
     {
         ChunkedPart {
-            place: Place::Line,
+            place: Place::Line(LinePart::new()),
             body: Vec::new(alloc),
-            line: Vec::new(alloc),
         }
     }
 
@@ -68,7 +65,7 @@ impl ChunkedPart {
             → UnlessMemory (Leads (bytes ++ byte ∷ [])) result }
     {
         match self.place {
-            Place::Line => self.take_in_line(byte),
+            Place::Line(part) => self.take_in_line(part, byte),
             Place::Data(0) => self.take_return(byte),
             Place::Data(left) => self.take_in_data(left, byte),
             Place::Return => self.take_feed(byte),
@@ -94,24 +91,24 @@ impl ChunkedPart {
     }
 
     /// Reads a byte of a chunk line.
-    fn take_in_line(mut self, byte: u8) -> Result<ChunkStep, Failed<BadChunks>>
-        requires { self.place ≡ Place.Line }
-        ensures { (bytes : List ℕ) → StandsAt Place.Line self.body.items self.line.items bytes
+    fn take_in_line(mut self, part: LinePart, byte: u8) -> Result<ChunkStep, Failed<BadChunks>>
+        ensures { (bytes : List ℕ) → StandsAt (Place.Line part) self.body.items bytes
             → UnlessMemory (Leads (bytes ++ byte ∷ [])) result }
     {
-        self.line.push(byte)?;
-        match judge_line(self.line.as_slice()) {
-            Ok(None) => Ok(ChunkStep::More(self)),
-            Ok(Some(size)) => self.after_line(size),
-            Err(BadLine) => Err(Failed::Because(BadChunks::Malformed)),
+        match part.take(byte) {
+            LineStep::More(next) => {
+                self.place = Place::Line(next);
+                Ok(ChunkStep::More(self))
+            }
+            LineStep::Whole(size) => self.after_line(size),
+            LineStep::Bad => Err(Failed::Because(BadChunks::Malformed)),
         }
     }
 
     /// Returns the state after a whole chunk line with this size. Fails with [`BadChunks::TooLarge`] if the
     /// content would exceed 1,048,576 bytes.
     fn after_line(mut self, size: u64) -> Result<ChunkStep, Failed<BadChunks>>
-        ensures { (bytes : List ℕ) → HasChunks bytes self.body.items self.line.items
-            → IsLineOf size self.line.items
+        ensures { (bytes line : List ℕ) → HasChunks bytes self.body.items line → IsLineOf size line
             → UnlessMemory (Leads bytes) result }
     {
         let content = self.body.len() as u64;
@@ -129,8 +126,7 @@ impl ChunkedPart {
     /// Reads a byte of a chunk's data, of which `left` bytes are missing.
     fn take_in_data(mut self, left: u64, byte: u8) -> Result<ChunkStep, Failed<BadChunks>>
         requires { 0 < left }
-        ensures { (bytes : List ℕ) → StandsAt
-            (Place.Data left) self.body.items self.line.items bytes
+        ensures { (bytes : List ℕ) → StandsAt (Place.Data left) self.body.items bytes
             → UnlessMemory (Leads (bytes ++ byte ∷ [])) result }
     {
         self.body.push(byte)?;
@@ -140,7 +136,7 @@ impl ChunkedPart {
 
     /// Reads the CR after a chunk's data. Fails with [`BadChunks::Malformed`] for any other byte.
     fn take_return(mut self, byte: u8) -> Result<ChunkStep, Failed<BadChunks>>
-        ensures { (bytes : List ℕ) → StandsAt (Place.Data 0) self.body.items self.line.items bytes
+        ensures { (bytes : List ℕ) → StandsAt (Place.Data 0) self.body.items bytes
             → UnlessMemory (Leads (bytes ++ byte ∷ [])) result }
     {
         if byte != b'\r' {
@@ -152,14 +148,13 @@ impl ChunkedPart {
 
     /// Reads the LF after a chunk's data. Fails with [`BadChunks::Malformed`] for any other byte.
     fn take_feed(mut self, byte: u8) -> Result<ChunkStep, Failed<BadChunks>>
-        ensures { (bytes : List ℕ) → StandsAt Place.Return self.body.items self.line.items bytes
+        ensures { (bytes : List ℕ) → StandsAt Place.Return self.body.items bytes
             → UnlessMemory (Leads (bytes ++ byte ∷ [])) result }
     {
         if byte != b'\n' {
             return Err(Failed::Because(BadChunks::Malformed));
         }
-        self.line.clear();
-        self.place = Place::Line;
+        self.place = Place::Line(LinePart::new());
         Ok(ChunkStep::More(self))
     }
 
@@ -169,8 +164,7 @@ impl ChunkedPart {
         part: TrailerPart,
         byte: u8,
     ) -> Result<ChunkStep, Failed<BadChunks>>
-        ensures { (bytes : List ℕ) → StandsAt
-            (Place.Trailers part) self.body.items self.line.items bytes
+        ensures { (bytes : List ℕ) → StandsAt (Place.Trailers part) self.body.items bytes
             → UnlessMemory (Leads (bytes ++ byte ∷ [])) result }
     {
         match part.take(byte) {

@@ -1,6 +1,6 @@
-use Rattle.scim_wire.proofs.ChunkLineLemmas.{line_start}
-use Rattle.scim_wire.proofs.ChunkStepLemmas.{chunks_start}
+use Rattle.std.proofs.Common.{[]}
+use Rattle.scim_wire.proofs.ChunkStepLemmas.{chunks_start, line_begins}
 use Rattle.scim_wire.proofs.chunked.ChunkedPart.new.Goals as goal
 
 pub returns : goal.returns
-returns c = rw (c.new.ensures.items, c.new-2.ensures.items) (chunks_start, line_start)
+returns c = rw (c.new-2.ensures.items) (line_begins [] [] _ chunks_start c.new.ensures.rest c.new.ensures.goes_on)

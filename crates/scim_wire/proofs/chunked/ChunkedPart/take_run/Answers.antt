@@ -1,4 +1,4 @@
-use Rattle.std.proofs.Common.{◌≡◌, ◌≤◌, length, take, arith}
+use Rattle.std.proofs.Common.{◌≤◌, length, take, arith}
 use Rattle.std.proofs.lemmas.List.{length-take-le}
 use Rattle.scim_wire.proofs.ChunkStepLemmas.{data_more}
 use Rattle.scim_wire.proofs.chunked.ChunkedPart.take_run.Goals as goal
