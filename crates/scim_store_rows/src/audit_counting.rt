@@ -30,10 +30,7 @@ fn is_audit_row(alloc: Global, number: u64, row: &Row) -> Result<bool, Error>
 ///
 /// Fails with the database's error, or with `OutOfMemory` if memory runs out. Then the connection is closed,
 /// or its database is unchanged or as the last commit left it.
-pub fn count_audit<S: Alter>(
-    conn: &mut Connection<S>,
-    alloc: Global,
-) -> Result<Option<u64>, Error>
+pub fn count_audit<S: Alter>(conn: &mut Connection<S>, alloc: Global) -> Result<Option<u64>, Error>
     ensures mode { conn.old.in_transaction ≡ false → conn.new.in_transaction ≡ false }
     ensures spares { Spares (state S.Store conn.old) (state S.Store conn.new) }
     ensures counted { HasCleanDisk (state S.Store conn.new) → HasTables (state S.Store conn.old)
