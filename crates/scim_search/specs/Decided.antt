@@ -1,10 +1,9 @@
 -- The cache of decisions by resource id.
 use Rattle.std.specs.Prelude.{◌≡◌, ℕ, List, Some, IfSome, find}
-use Rattle.std.specs.BTreeMap.{get}
-use Rattle.std.specs.Ordering.{nat_cmp}
-use Rattle.std.specs.Cmp.Lexicographic.{slice_cmp}
+use Rattle.std.specs.HashMap.{get}
 use Rattle.scim_schema.specs.declared.Kind.{Kind}
 use Rattle.scim_cell.specs.Content.{Content}
+use Rattle.scim_cell.specs.Equality.{is_same_id}
 use Rattle.scim_policy.specs.declared.decisions.Decisions.{Decisions}
 use Rattle.scim_view.specs.View.{Viewer}
 use Rattle.scim_shelf.specs.Stores.{is_at}
@@ -19,4 +18,4 @@ AreOn v kind cs id decisions = (c : Content) → find (is_at kind id) cs ≡ Som
 -- every cache entry has the policy's decisions on the viewer's read access to the resource with the id of the
 -- entry
 abbrev pub Recalls : Viewer → Kind → List Content → Decided → Type 0
-Recalls v kind cs decided = (id : List ℕ) → IfSome (get (slice_cmp nat_cmp) decided.by_id id) (AreOn v kind cs id)
+Recalls v kind cs decided = (id : List ℕ) → IfSome (get is_same_id decided.by_id id) (AreOn v kind cs id)

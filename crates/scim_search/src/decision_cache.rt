@@ -1,11 +1,10 @@
 //! A cache of decisions for one request, by resource id.
 ghost use Rattle.std.specs.Prelude.{◌≡◌, List, Some, IfSome, OnOk};
-ghost use Rattle.std.specs.BTreeMap.{get};
-ghost use Rattle.std.specs.Ordering.{nat_cmp};
-ghost use Rattle.std.specs.Cmp.Lexicographic.{slice_cmp};
+ghost use Rattle.std.specs.HashMap.{get};
 ghost use Rattle.std.specs.Option.{option_copied};
 ghost use Rattle.scim_schema.specs.declared.Kind.{Kind as SpecKind};
 ghost use Rattle.scim_cell.specs.Content.{Content};
+ghost use Rattle.scim_cell.specs.Equality.{is_same_id};
 ghost use Rattle.scim_view.specs.View.{Viewer as SpecViewer};
 ghost use Rattle.scim_search.specs.Decided as spec;
 
@@ -13,7 +12,7 @@ use scim_cell::Id;
 use scim_policy::Decisions;
 use scim_text::NoMemory;
 use std::alloc::Global;
-use std::collections::BTreeMap;
+use std::collections::HashMap;
 
 /// The maximum number of resources whose decisions are cached. Without this limit, a search in which each
 /// resource sorts before all earlier ones would cache the decisions on every resource.
@@ -23,7 +22,7 @@ const MOST_KEPT: usize = 4_096;
 /// With this cache, a request needn't evaluate the targets of the rules on the same resource twice.
 #[derive(Drop)]
 pub(crate) struct Decided {
-    by_id: BTreeMap<Id, Decisions>,
+    by_id: HashMap<Id, Decisions>,
 }
 
 impl Decided {
@@ -33,13 +32,13 @@ impl Decided {
             → spec.Recalls v kind cs result }
     {
         Decided {
-            by_id: BTreeMap::new(alloc),
+            by_id: HashMap::new(alloc),
         }
     }
 
     /// Returns the cached decisions on the resource with this id; `None` if there aren't any.
     pub(crate) fn of(&self, id: Id) -> Option<&Decisions>
-        ensures value { option_copied result ≡ get (slice_cmp nat_cmp) self.now.by_id id }
+        ensures value { option_copied result ≡ get is_same_id self.now.by_id id }
         ensures recalls { (v : SpecViewer) (kind : SpecKind) (cs : List Content)
             → spec.Recalls v kind cs self.now
             → IfSome result (λ decisions. spec.AreOn v kind cs id decisions.now) }
@@ -50,7 +49,7 @@ impl Decided {
     /// Caches the decisions on the resource with this id.
     /// If the decisions on 4,096 resources are cached already, the cache is cleared first.
     pub(crate) fn keep(&mut self, id: Id, decisions: Decisions) -> Result<(), NoMemory>
-        ensures kept { OnOk result (get (slice_cmp nat_cmp) self.new.by_id id ≡ Some decisions) }
+        ensures kept { OnOk result (get is_same_id self.new.by_id id ≡ Some decisions) }
         ensures recalls { OnOk result ((v : SpecViewer) (kind : SpecKind) (cs : List Content)
             → spec.AreOn v kind cs id decisions
             → spec.Recalls v kind cs self.old → spec.Recalls v kind cs self.new) }
