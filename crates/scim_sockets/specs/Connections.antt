@@ -1,11 +1,11 @@
 -- The state of a connection: the bytes that its turn read, and how many of the offered bytes it took. A turn
 -- is one unit of the connection's work.
-use Rattle.std.specs.Prelude.{◌≡◌, ◌≤◌, ◌⊎◌, ℕ, true, Option, None, Some, List, length}
+use Rattle.std.specs.Prelude.{◌≡◌, ◌≤◌, ◌+◌, ◌⊎◌, ℕ, true, Option, None, Some, List, length}
 use Rattle.scim_sockets.specs.declared.connection.Connection.{Connection}
 use Rattle.scim_sockets.specs.declared.connection.Taking.{Taking}
 use Rattle.scim_sockets.specs.declared.connection.Taking.TheVariants.{All}
 use Rattle.scim_sockets.specs.declared.connection.Turn.{Turn}
-use Rattle.scim_sockets.specs.declared.connection.Turn.TheVariants.{Piece}
+use Rattle.scim_sockets.specs.declared.connection.Turn.TheVariants.{Read, Piece}
 
 -- fewer bytes were taken than offered
 abbrev pub IsLess : Taking → Type 0
@@ -20,13 +20,19 @@ IsBehind connection = IsLess connection.taking
 abbrev pub TakesNothing : Connection → Type 0
 TakesNothing connection = (connection.stream ≡ None) ⊎ (connection.is_shut ≡ true)
 
--- the turn read no bytes
+-- the weight of a connection: the bytes of its message in hand and of its reply
+abbrev pub weight_of : Connection → ℕ
+weight_of connection = connection.handed + connection.owed
+
+-- the turn read no bytes, and handed on none
 abbrev pub IsUnread : Turn → Type 0
+IsUnread (Read _) = ⊥
 IsUnread (Piece _) = ⊥
 IsUnread _ = Unit {0}
 
--- the bytes that the turn read are within the buffer
+-- the bytes that the turn read or handed on are within the buffer
 abbrev pub FitsIn : List ℕ → Turn → Type 0
+FitsIn buffer (Read count) = count ≤ length buffer
 FitsIn buffer (Piece count) = count ≤ length buffer
 FitsIn buffer _ = Unit {0}
 

@@ -1,12 +1,18 @@
 //! A connection over a socket, with the state of its reading and writing.
 ghost use Rattle.std.specs.Prelude.{◌≡◌, ◌<◌, ◌≤◌, ◌⊎◌, None, length};
-ghost use Rattle.scim_sockets.specs.Connections.{IsBehind, TakesNothing, IsUnread, FitsIn};
+ghost use Rattle.scim_sockets.specs.Connections.{IsBehind, TakesNothing, IsUnread, FitsIn, weight_of};
 
-use crate::time_limits::LINGER;
+use crate::held_bytes::Held;
+use crate::pieces::{Part, Scan};
+use crate::time_limits::{LINGER, Limits};
 use mio::net::TcpStream;
+use std::alloc::Global;
 use std::io::{ErrorKind, Read, Write};
 use std::net::Shutdown;
-use std::time::{Duration, Instant};
+use std::time::Duration;
+
+/// The interim reply 100 (Continue), after which the message in hand goes on.
+const CONTINUE: &[u8] = b"HTTP/1.1 100 Continue\r\n\r\n";
 
 /// How many of the bytes that were last offered to a connection it has taken.
 #[derive(Clone, Copy, PartialEq, Eq)]
@@ -24,7 +30,9 @@ enum Taking {
 pub(crate) enum Turn {
     /// There is no event to report.
     Nothing,
-    /// This many bytes were read.
+    /// This many bytes were read, which the connection holds.
+    Read(usize),
+    /// This many of the bytes that the connection held are handed on.
     Piece(usize),
     /// The connection may take more of the bytes that it was offered.
     Ready,
@@ -32,11 +40,28 @@ pub(crate) enum Turn {
     Left,
 }
 
+/// Why a connection is late.
+#[derive(Clone, Copy, PartialEq, Eq)]
+pub(crate) enum Late {
+    /// It was silent, or was shut and not closed by its client.
+    Idle,
+    /// The head of its message took too long.
+    Head,
+    /// Its message took too long.
+    Message,
+    /// It takes a reply too slowly.
+    Reply,
+}
+
 /// An accepted connection. It is kept until its end has been reported as [`Turn::Left`].
 ///
 /// The system's reports are edge-triggered: it reports a socket as readable or writable once, and again only
 /// after a call returned `WouldBlock`. Therefore the connection remembers a report until a call returns
 /// `WouldBlock`.
+///
+/// A read may return the bytes of many requests. They are held, and handed on piece by piece, one each turn. A
+/// piece completes the head of at most one request. Nothing is handed on or read before the connection has taken
+/// all bytes that it was offered.
 #[derive(Drop)]
 pub(crate) struct Connection {
     // `None` after the connection has ended.
@@ -48,13 +73,35 @@ pub(crate) struct Connection {
     is_shut: bool,
     // Whether the connection is in the queue of connections with work to do.
     is_waiting: bool,
-    // The time at which the connection last sent or took bytes, was accepted, or was shut.
-    last: Instant,
+    // The bytes that were read and aren't handed on yet.
+    held: Held,
+    // What the bytes that were handed on show of the message in hand.
+    scan: Scan,
+    // The time at which the message in hand began, if there is one.
+    began: Duration,
+    // The time at which the last reply was begun, and how many bytes were taken since.
+    replied: Duration,
+    taken: u64,
+    // The time at which the connection last sent a byte of a message, took bytes, was accepted, or was shut.
+    last: Duration,
+    // The number of bytes of the message in hand that were handed on.
+    handed: u32,
+    // The length of the reply that the connection hasn't taken whole; 0 if there is none.
+    owed: u32,
+    // The place of the client whose requests came last.
+    client: usize,
+}
+
+/// Returns a number of bytes in 32 bits; the greatest if it doesn't fit.
+fn capped(count: usize) -> u32 {
+    u32::try_from(count).unwrap_or(u32::MAX)
 }
 
 impl Connection {
     /// Returns a newly accepted connection.
-    pub(crate) fn new(stream: TcpStream, now: Instant) -> Connection {
+    pub(crate) fn new(alloc: Global, stream: TcpStream, now: Duration) -> Connection
+        ensures { weight_of result ≡ 0 }
+    {
         // Replies are written whole, so the system needn't delay small packets.
         let _ = stream.set_nodelay(true);
         Connection {
@@ -63,13 +110,47 @@ impl Connection {
             may_read: true,
             is_shut: false,
             is_waiting: false,
+            held: Held::new(alloc),
+            scan: Scan::new(),
+            began: now,
+            replied: now,
+            taken: 0,
             last: now,
+            handed: 0,
+            owed: 0,
+            client: 0,
         }
+    }
+
+    /// Returns the weight of the connection: how many bytes the server holds of its unfinished message and of
+    /// its reply. Not counted are the bytes that were read and not handed on, which are at most one read.
+    pub(crate) fn weight(&self) -> u64
+        ensures { result ≡ weight_of self.now }
+    {
+        u64::from(self.handed) + u64::from(self.owed)
+    }
+
+    /// Returns the place of the client whose requests came last; 0 at first.
+    pub(crate) fn client(&self) -> usize {
+        self.client
+    }
+
+    /// Whether the socket was dropped.
+    pub(crate) fn has_ended(&self) -> bool {
+        self.stream.is_none()
+    }
+
+    /// Sets the place of the client.
+    pub(crate) fn set_client(&mut self, client: usize)
+        ensures { weight_of self.new ≡ weight_of self.old }
+    {
+        self.client = client;
     }
 
     /// Records that the system has reported the socket as readable or writable.
     pub(crate) fn note(&mut self, can_read: bool, can_write: bool)
-        ensures { IsBehind self.old → IsBehind self.new }
+        ensures behind { IsBehind self.old → IsBehind self.new }
+        ensures weight { weight_of self.new ≡ weight_of self.old }
     {
         self.may_read |= can_read;
         if can_write && self.taking == Taking::Less {
@@ -80,10 +161,11 @@ impl Connection {
     /// Returns whether the connection must be queued: whether it has work to do and isn't queued. If so,
     /// marks the connection as queued.
     pub(crate) fn begins_to_wait(&mut self) -> bool
-        ensures { self.new.taking ≡ self.old.taking }
+        ensures taking { self.new.taking ≡ self.old.taking }
+        ensures weight { weight_of self.new ≡ weight_of self.old }
     {
         let has_to_do = match self.taking {
-            Taking::All => self.may_read,
+            Taking::All => self.may_read || !self.held.is_empty(),
             Taking::Less => false,
             Taking::More => true,
         };
@@ -92,18 +174,20 @@ impl Connection {
         begins
     }
 
-    /// Does the next work of the connection: reports its end, reports that it may take more bytes, or reads
-    /// at most once. Bytes that were read are at the start of `buffer`.
+    /// Does the next work of the connection: reports its end, reports that it may take more bytes, hands on a
+    /// piece of the bytes that it holds, or reads at most once. The piece, or what was read, is at the start of
+    /// `buffer`.
     ///
-    /// A connection that hasn't taken all offered bytes isn't read. So the end of its stream is seen only
-    /// after the connection has taken its replies, and a client that has closed its sending side gets them.
-    pub(crate) fn turn(&mut self, now: Instant, buffer: &mut [u8]) -> Turn
+    /// A connection that hasn't taken all offered bytes isn't read, and nothing that it holds is handed on. So
+    /// a reply is begun only after the one before it was taken, and the end of the stream is seen only after
+    /// the connection has taken its replies: a client that has closed its sending side gets them.
+    pub(crate) fn turn(&mut self, now: Duration, buffer: &mut [u8]) -> Turn
         ensures fits { FitsIn buffer.new result }
         ensures behind { IsBehind self.old → IsUnread result × IsBehind self.new }
     {
         self.is_waiting = false;
         match self.taking {
-            Taking::All => self.read(now, buffer),
+            Taking::All => self.advance(now, buffer),
             Taking::Less => Turn::Nothing,
             Taking::More => {
                 self.taking = Taking::Less;
@@ -112,8 +196,21 @@ impl Connection {
         }
     }
 
-    /// Reads once, and ends the connection at the end of its stream.
-    fn read(&mut self, now: Instant, buffer: &mut [u8]) -> Turn
+    /// Hands on the next piece of the bytes that the connection holds, or reads if it holds none.
+    fn advance(&mut self, now: Duration, buffer: &mut [u8]) -> Turn
+        ensures { FitsIn buffer.new result }
+    {
+        if self.held.is_empty() {
+            return self.read(buffer);
+        }
+        let part = self.scan.part();
+        let count = self.held.give(&mut self.scan, buffer);
+        self.note_piece(now, part, count);
+        Turn::Piece(count)
+    }
+
+    /// Reads once. Ends the connection at the end of its stream, and if memory runs out.
+    fn read(&mut self, buffer: &mut [u8]) -> Turn
         ensures { FitsIn buffer.new result }
     {
         let Some(stream) = &mut self.stream else {
@@ -126,10 +223,26 @@ impl Connection {
             }
             Ok(_) if self.is_shut => Turn::Nothing,
             Ok(count) => {
-                self.last = now;
-                Turn::Piece(count)
+                if self.held.hold(&buffer[..count]).is_err() {
+                    self.end();
+                    return Turn::Left;
+                }
+                Turn::Read(count)
             }
             Err(error) => self.read_failed(error.kind()),
+        }
+    }
+
+    /// Notes that a piece of this many bytes was handed on, before which the stream was in `part` of a message.
+    /// Empty lines between two messages are no sign of life.
+    fn note_piece(&mut self, now: Duration, part: Part, count: usize) {
+        if part == Part::Between {
+            self.began = now;
+            self.handed = 0;
+        }
+        if self.scan.part() != Part::Between {
+            self.last = now;
+            self.handed = self.handed.saturating_add(capped(count));
         }
     }
 
@@ -152,35 +265,60 @@ impl Connection {
     }
 
     /// Offers bytes to the connection, and returns the length of the prefix that it took.
-    pub(crate) fn write(&mut self, now: Instant, bytes: &[u8]) -> usize
+    pub(crate) fn write(&mut self, now: Duration, bytes: &[u8]) -> usize
         ensures count { result ≤ length bytes.now }
         ensures less { result < length bytes.now → IsBehind self.new ⊎ TakesNothing self.new }
     {
         if self.is_shut || bytes.is_empty() {
             return 0;
         }
+        let is_first = self.taking == Taking::All;
         let Some(stream) = &mut self.stream else {
             return 0;
         };
-        match stream.write(bytes) {
+        let written = stream.write(bytes);
+        if is_first {
+            self.begin_reply(now, bytes);
+        }
+        match written {
             Ok(0) => {
                 self.end();
                 0
             }
             Ok(count) => {
                 self.last = now;
-                self.taking = if count == bytes.len() {
-                    Taking::All
+                self.taken = self.taken.saturating_add(count as u64);
+                if count == bytes.len() {
+                    self.taking = Taking::All;
+                    self.owed = 0;
                 } else {
                     // The connection may take more bytes: only `WouldBlock` means that it can't.
-                    Taking::More
-                };
+                    self.taking = Taking::More;
+                }
                 count
             }
             Err(error) => {
                 self.write_failed(error.kind());
                 0
             }
+        }
+    }
+
+    /// Notes that the server begins a reply. The message in hand ends with it, unless the reply is 100
+    /// (Continue): then the time of the message counts anew, and its body goes on.
+    fn begin_reply(&mut self, now: Duration, bytes: &[u8])
+        ensures stream { self.new.stream ≡ self.old.stream }
+        ensures shut { self.new.is_shut ≡ self.old.is_shut }
+    {
+        self.replied = now;
+        self.taken = 0;
+        self.owed = capped(bytes.len());
+        if bytes.ends_with(CONTINUE) {
+            self.scan.begin_body();
+            self.began = now;
+        } else {
+            self.scan.end_message();
+            self.handed = 0;
         }
     }
 
@@ -195,12 +333,13 @@ impl Connection {
         }
     }
 
-    /// Shuts the connection: the bytes that it has taken are sent, followed by the end of the stream.
+    /// Shuts the connection: the bytes that it has taken are sent, followed by the end of the stream. What it
+    /// holds is dropped.
     ///
     /// The socket is dropped after the client has closed its side too, or after two seconds. Until then the
     /// bytes that the client sends are read and dropped. If the socket were dropped at once, such bytes would
     /// cause a reset, and the client could lose the reply (RFC 9112 section 9.6).
-    pub(crate) fn shut(&mut self, now: Instant)
+    pub(crate) fn shut(&mut self, now: Duration)
         ensures { TakesNothing self.new }
     {
         if self.is_shut {
@@ -211,6 +350,7 @@ impl Connection {
             None => false,
         };
         if is_sent {
+            self.drop_bytes();
             self.is_shut = true;
             self.taking = Taking::All;
             self.may_read = true;
@@ -220,26 +360,76 @@ impl Connection {
         }
     }
 
-    /// Drops the socket. The next turn of the connection returns [`Turn::Left`].
+    /// Drops the socket and what the connection holds. The next turn of the connection returns [`Turn::Left`].
     pub(crate) fn end(&mut self)
-        ensures { self.new.stream ≡ None }
+        ensures stream { self.new.stream ≡ None }
+        ensures weight { weight_of self.new ≡ 0 }
     {
         self.stream = None;
+        self.drop_bytes();
         self.taking = Taking::All;
         self.may_read = true;
     }
 
-    /// Whether the connection neither sent nor took bytes for longer than `idle`, or was shut over two
-    /// seconds ago.
-    ///
-    /// A connection that is queued for a turn isn't late unless it was shut: its bytes may not have been
-    /// read.
-    pub(crate) fn is_late(&self, now: Instant, idle: Duration) -> bool {
-        let since = now.duration_since(self.last);
+    /// Drops what the connection holds. The message in hand and the reply are over.
+    fn drop_bytes(&mut self)
+        ensures stream { self.new.stream ≡ self.old.stream }
+        ensures weight { weight_of self.new ≡ 0 }
+    {
+        self.held.clear();
+        self.handed = 0;
+        self.owed = 0;
+    }
+
+    /// Returns why the connection is late, if it is.
+    pub(crate) fn lateness(&self, now: Duration, limits: &Limits) -> Option<Late> {
         if self.is_shut {
-            since > Duration::from_secs(LINGER)
-        } else {
-            since > idle && !self.is_waiting
+            let is_late = now.saturating_sub(self.last) > Duration::from_secs(LINGER);
+            return is_late.then_some(Late::Idle);
         }
+        if self.has_passed(now, self.last, limits.idle) {
+            return Some(Late::Idle);
+        }
+        if self.taking == Taking::All {
+            self.message_lateness(now, limits)
+        } else {
+            let since = now.saturating_sub(self.replied);
+            (!self.is_waiting && limits.is_slow(since, self.taken)).then_some(Late::Reply)
+        }
+    }
+
+    /// Returns why the message in hand is late, if it is. A message that waits in the socket, or is held until
+    /// the reply before it was taken, hasn't begun.
+    fn message_lateness(&self, now: Duration, limits: &Limits) -> Option<Late> {
+        match self.scan.part() {
+            Part::Between => None,
+            Part::Head => self
+                .has_passed(now, self.began, limits.head)
+                .then_some(Late::Head),
+            Part::Body => self
+                .has_passed(now, self.began, limits.message)
+                .then_some(Late::Message),
+        }
+    }
+
+    /// Whether more than the limit has passed since a time; twice the limit if the connection is queued for a
+    /// turn, since its bytes may not have been read.
+    fn has_passed(&self, now: Duration, since: Duration, limit: Duration) -> bool {
+        let passed = now.saturating_sub(since);
+        if self.is_waiting {
+            passed > limit.saturating_mul(2)
+        } else {
+            passed > limit
+        }
+    }
+
+    /// Returns the time since which the connection has been idle: no message has begun, nothing is held, no
+    /// reply is pending, and no work is queued. `None` if it isn't idle.
+    pub(crate) fn idle_since(&self) -> Option<Duration> {
+        let is_idle = self.taking == Taking::All
+            && self.scan.part() == Part::Between
+            && self.held.is_empty()
+            && !self.is_waiting;
+        is_idle.then_some(self.last)
     }
 }

@@ -4,8 +4,9 @@ ghost use Rattle.std.specs.BTreeMap.{btree_map_len};
 ghost use Rattle.scim_sockets.specs.Connections.{FitsIn, AreAccepted, IsOver};
 
 use crate::connection::{Connection, Turn};
+use crate::counts::{Counts, Log};
 use crate::stamps::stamp_now;
-use crate::time_limits::{IDLE, WAIT, WATCH};
+use crate::time_limits::{LOG, LONG_TURN, LONGEST_STEP, Limits, WAIT, WATCH};
 use crate::turn_queue::{LISTENER, Place, Turns};
 use mio::net::{TcpListener, TcpStream};
 use mio::{Events, Interest, Poll, Token};
@@ -20,8 +21,7 @@ use std::random::RandomSource;
 use std::time::{Clock, Duration, Instant};
 use thiserror::Error;
 
-/// The maximum number of bytes per read. All requests that a read completes are answered before another
-/// connection is served, so reads are short.
+/// The maximum number of bytes per read, and so the most that is held for a connection until it is handed on.
 const PIECE: usize = 4096;
 
 /// The maximum number of the system's reports per poll: one for the listener and one for each connection.
@@ -73,13 +73,13 @@ impl Room {
     }
 
     /// Does the next work of the connection with the number, and returns the result.
-    fn turn(&mut self, number: u64, now: Instant) -> Turn
+    fn turn(&mut self, number: u64, now: Duration) -> Turn
         ensures { FitsIn self.new.buffer.items result }
     {
         self.turns.turn(number, now, &mut self.buffer)
     }
 
-    /// Returns a copy of the first `count` bytes of the buffer, which were read last.
+    /// Returns a copy of the first `count` bytes of the buffer, which are the piece.
     fn piece(&self, alloc: Global, count: usize) -> Result<Vec<u8>, AllocError>
         requires { count ≤ length self.now.buffer.items }
         ensures { IfOk result (λ bytes. bytes.items ≡ take count self.now.buffer.items) }
@@ -87,9 +87,14 @@ impl Room {
         Vec::from_slice(alloc, &self.buffer[..count])
     }
 
-    /// Polls the system and handles its reports. Doesn't wait if work is queued.
-    fn wait(&mut self, poll: &mut Poll) -> io::Result<()> {
-        let time = if self.turns.waiting() == 0 { WAIT } else { 0 };
+    /// Polls the system and handles its reports. Waits for one only if `may_wait` is true and no work is
+    /// queued.
+    fn wait(&mut self, poll: &mut Poll, may_wait: bool) -> io::Result<()> {
+        let time = if may_wait && self.turns.waiting() == 0 {
+            WAIT
+        } else {
+            0
+        };
         poll.poll(&mut self.events, Some(Duration::from_millis(time)))?;
         for event in &self.events {
             self.turns.note(event);
@@ -110,28 +115,42 @@ fn unstamped(connection: u64, kind: OwnedEventKind) -> PeerEvent {
 
 /// The system's sockets as connections, many of which are served on one thread.
 ///
-/// A connection is closed if for a minute it has neither sent bytes nor taken bytes of a pending reply. A
-/// connection that [`Peers::close`] closes leaves once the client has closed its side too, or two seconds
-/// later. At most 1,024 connections are open at once; further connections wait in the system's queue until
-/// one has left.
+/// Each piece that [`Peers::next`] reports completes the head of at most one request, and comes after the
+/// connection has taken all replies to the pieces before it. Then it is the turn of the other connections.
+///
+/// A connection is closed if it is late, as [`Limits`] says. Time counts while the system is polled: after a
+/// pause of the process or of the machine, and after a request that took long, at most one second counts, and a
+/// connection is late only if a poll since then reported nothing for it. A connection that [`Peers::close`]
+/// closes leaves once the client has closed its side too, or two seconds later.
+///
+/// At most 1,024 connections are open at once. If another one waits then, the connection that has been idle
+/// longest gives way; if none is idle, it waits until one has left.
 #[derive(Drop)]
-pub struct Sockets<'r, R: Clock + RandomSource> {
+pub struct Sockets<'r, R: Clock + RandomSource + Log> {
     rt: &'r R,
     listening: Listening,
     room: Room,
+    // An accepted connection for which there is no room yet.
+    guest: Option<TcpStream>,
     // The number of queue entries to process until the next poll.
     round: usize,
-    // The number of accepted connections, which the next connection gets as its number.
+    // The number of connections that have joined, which the next connection gets as its number.
     accepted: u64,
     most: Option<u64>,
-    idle: Duration,
+    limits: Limits,
+    counts: Counts,
+    // The counts that were logged last, and when.
+    logged: Counts,
+    log_time: Duration,
     // The last reading of the clock.
-    time: Instant,
+    clock: Instant,
+    // The time that counts for the limits.
+    time: Duration,
     // The time of the last search for late connections.
-    watched: Instant,
+    watched: Duration,
 }
 
-impl<'r, R: Net + Clock + RandomSource> Sockets<'r, R> {
+impl<'r, R: Net + Clock + RandomSource + Log> Sockets<'r, R> {
     /// Listens on a port of the loopback address; on a free port if `port` is 0.
     ///
     /// With `most`, at most that many connections are accepted, and [`Peers::next`] returns `None` after the
@@ -151,25 +170,35 @@ impl<'r, R: Net + Clock + RandomSource> Sockets<'r, R> {
             rt,
             listening,
             room,
+            guest: None,
             round: 0,
             accepted: 0,
             most,
-            idle: Duration::from_secs(IDLE),
-            time: now,
-            watched: now,
+            limits: Limits::usual(),
+            counts: Counts::new(),
+            logged: Counts::new(),
+            log_time: Duration::from_secs(0),
+            clock: now,
+            time: Duration::from_secs(0),
+            watched: Duration::from_secs(0),
         })
     }
 }
 
-impl<'r, R: Clock + RandomSource> Sockets<'r, R> {
+impl<'r, R: Clock + RandomSource + Log> Sockets<'r, R> {
     /// Returns the port that the socket listens on.
     pub fn port(&self) -> u16 {
         self.listening.port
     }
 
-    /// Sets the time after which an idle connection is closed; one minute by default.
-    pub fn set_idle(&mut self, idle: Duration) {
-        self.idle = idle;
+    /// Sets the limits of time; [`Limits::usual`] by default.
+    pub fn set_limits(&mut self, limits: Limits) {
+        self.limits = limits;
+    }
+
+    /// Returns how many connections were closed so far because they were late or gave way.
+    pub fn counts(&self) -> Counts {
+        self.counts
     }
 
     /// Whether the maximum number of connections was accepted.
@@ -185,24 +214,39 @@ impl<'r, R: Clock + RandomSource> Sockets<'r, R> {
     /// Whether the maximum number of connections was accepted and no connection is open.
     fn is_over(&self) -> bool
         ensures { IsTrue result → IsOver self.now.most self.now.accepted
-            (btree_map_len self.now.room.turns.connections) }
+            (btree_map_len self.now.room.turns.connections.by_number) }
     {
         self.has_accepted_all() && self.room.turns.is_empty()
     }
 
-    /// Accepts a connection, if one is waiting and may join now.
+    /// Accepts a connection, if one is waiting and may join now. If there is no room for it, lets an idle
+    /// connection give way.
     ///
     /// If the system fails to accept a connection, for example because too many files are open, the attempt
     /// is repeated after the next poll and after a connection has left.
-    fn accept(&mut self) -> Option<PeerEvent> {
-        if self.has_accepted_all() || self.room.turns.is_full() {
+    fn accept(&mut self, alloc: Global) -> Option<PeerEvent> {
+        if self.has_accepted_all() {
             return None;
         }
+        if self.room.turns.is_full() {
+            self.accept_guest();
+            return None;
+        }
+        let stream = self.take_stream()?;
+        self.room.turns.open_door();
+        self.join(alloc, stream)
+    }
+
+    /// Returns the guest, or else a connection that is waiting to be accepted, if there is one.
+    fn take_stream(&mut self) -> Option<TcpStream>
+        ensures connections { self.new.room.turns.connections ≡ self.old.room.turns.connections }
+        ensures accepted { self.new.accepted ≡ self.old.accepted }
+    {
+        if let Some(stream) = self.guest.take() {
+            return Some(stream);
+        }
         match self.listening.listener.accept() {
-            Ok((stream, _)) => {
-                self.room.turns.open_door();
-                self.join(stream)
-            }
+            Ok((stream, _)) => Some(stream),
             Err(error) => {
                 if error.kind() == ErrorKind::WouldBlock {
                     self.room.turns.close_door();
@@ -212,10 +256,26 @@ impl<'r, R: Clock + RandomSource> Sockets<'r, R> {
         }
     }
 
+    /// Accepts a connection for which there is no room yet, unless there is such a guest already, and lets an
+    /// idle connection give way to it.
+    fn accept_guest(&mut self) {
+        if self.guest.is_none() {
+            self.guest = self.take_stream();
+            self.give_way();
+        }
+    }
+
+    /// Ends the connection that has been idle longest, if a guest waits and no connection can join.
+    fn give_way(&mut self) {
+        if self.guest.is_some() && self.room.turns.is_full() {
+            self.room.turns.end_idlest(&mut self.counts);
+        }
+    }
+
     /// Adds an accepted connection. Drops it without a report if it can't be registered or if memory runs
     /// out.
-    fn join(&mut self, mut stream: TcpStream) -> Option<PeerEvent>
-        requires room { btree_map_len self.old.room.turns.connections < 1024 }
+    fn join(&mut self, alloc: Global, mut stream: TcpStream) -> Option<PeerEvent>
+        requires room { btree_map_len self.old.room.turns.connections.by_number < 1024 }
     {
         let number = self.accepted;
         self.accepted = number.saturating_add(1);
@@ -224,7 +284,7 @@ impl<'r, R: Clock + RandomSource> Sockets<'r, R> {
         let is_registered = registry
             .register(&mut stream, Token(number as usize), both)
             .is_ok();
-        let connection = Connection::new(stream, self.time);
+        let connection = Connection::new(alloc, stream, self.time);
         if is_registered && self.room.turns.join(number, connection) {
             Some(unstamped(number, OwnedEventKind::Joined))
         } else {
@@ -238,7 +298,7 @@ impl<'r, R: Clock + RandomSource> Sockets<'r, R> {
     /// clock or the random source failed. The connection then leaves when its next work is done.
     fn serve(&mut self, alloc: Global, number: u64) -> Option<PeerEvent> {
         match self.room.turn(number, self.time) {
-            Turn::Nothing => None,
+            Turn::Nothing | Turn::Read(_) => None,
             Turn::Ready => Some(PeerEvent::Ready(number)),
             Turn::Left => Some(unstamped(number, OwnedEventKind::Left)),
             Turn::Piece(count) => match (self.room.piece(alloc, count), stamp_now(self.rt)) {
@@ -255,33 +315,64 @@ impl<'r, R: Clock + RandomSource> Sockets<'r, R> {
         }
     }
 
-    /// Polls the system, and ends late connections. All work that is queued afterwards is done before the
-    /// next poll.
-    fn wait(&mut self) -> io::Result<()> {
-        self.room.wait(&mut self.listening.poll)?;
-        self.time = Instant::now(self.rt)?;
-        if self.time.duration_since(self.watched) >= Duration::from_secs(WATCH) {
-            self.watched = self.time;
-            self.room.turns.end_late(self.time, self.idle);
+    /// Polls the system. All work that is queued afterwards is done before the next poll.
+    ///
+    /// Once a second, ends late connections after a poll without a wait: what such a poll doesn't report hadn't
+    /// come at the time before it, even if the process was stopped for long just then.
+    fn wait(&mut self) -> Result<(), PeersFault> {
+        let is_watch = self.time.saturating_sub(self.watched) >= Duration::from_secs(WATCH);
+        if self.room.wait(&mut self.listening.poll, !is_watch).is_err() {
+            return Err(PeersFault);
         }
+        if is_watch {
+            self.watch();
+        }
+        let _ = self.look()?;
         self.round = self.room.turns.waiting();
         Ok(())
+    }
+
+    /// Ends late connections, lets an idle one give way if a guest waits, and logs what happened.
+    fn watch(&mut self) {
+        self.watched = self.time;
+        self.room
+            .turns
+            .end_late(self.time, &self.limits, &mut self.counts);
+        self.give_way();
+        self.log();
+    }
+
+    /// Logs how many connections were closed, if some were since the last line, at most once a minute.
+    fn log(&mut self) {
+        let since = self.time.saturating_sub(self.log_time);
+        if self.counts != self.logged && since >= Duration::from_secs(LOG) {
+            self.rt.log(&self.counts);
+            self.logged = self.counts;
+            self.log_time = self.time;
+        }
     }
 
     /// Processes one entry of the queue, or polls if `round` is 0.
     fn step(&mut self, alloc: Global) -> Result<Option<PeerEvent>, PeersFault> {
         if self.round == 0 {
-            return match self.wait() {
-                Ok(()) => Ok(None),
-                Err(_) => Err(PeersFault),
-            };
+            self.wait()?;
+            return Ok(None);
         }
         self.round -= 1;
         match self.room.turns.pop() {
-            Some(Place::Door) => Ok(self.accept()),
-            Some(Place::Connection(number)) => Ok(self.serve(alloc, number)),
+            Some(Place::Door) => Ok(self.accept(alloc)),
+            Some(Place::Connection(number)) => Ok(self.take_turn(alloc, number)),
             None => Ok(None),
         }
+    }
+
+    /// Does the next work of a connection, as `serve` does. If there is no event, its turn is over.
+    fn take_turn(&mut self, alloc: Global, number: u64) -> Option<PeerEvent> {
+        let peer_event = self.serve(alloc, number);
+        if peer_event.is_none() {
+            self.room.turns.settle(Duration::from_secs(0));
+        }
+        peer_event
     }
 
     /// Waits for the next event, and returns it; `None` if the maximum number of connections was accepted and
@@ -289,9 +380,9 @@ impl<'r, R: Clock + RandomSource> Sockets<'r, R> {
     fn await_event(&mut self, alloc: Global) -> Result<Option<PeerEvent>, PeersFault>
         ensures { IfOk result (λ told.
             IfNone told (IsOver self.new.most self.new.accepted
-            (btree_map_len self.new.room.turns.connections))) }
+            (btree_map_len self.new.room.turns.connections.by_number))) }
     {
-        self.look()?;
+        self.settle()?;
         for _ in 0..u64::MAX {
             if self.is_over() {
                 return Ok(None);
@@ -303,19 +394,36 @@ impl<'r, R: Clock + RandomSource> Sockets<'r, R> {
         Err(PeersFault)
     }
 
-    /// Reads the clock into `time`.
-    fn look(&mut self) -> Result<(), PeersFault> {
-        match Instant::now(self.rt) {
-            Ok(now) => {
-                self.time = now;
-                Ok(())
-            }
-            Err(_) => Err(PeersFault),
+    /// Ends the turn of the connection whose event was reported last. After a turn that took long, the system
+    /// is polled before the next one, since requests of other clients may have come.
+    fn settle(&mut self) -> Result<(), PeersFault> {
+        let cost = self.look()?;
+        self.room.turns.settle(cost);
+        self.room
+            .turns
+            .relieve(self.limits.memory, &mut self.counts);
+        if cost > Duration::from_millis(LONG_TURN) {
+            self.round = 0;
         }
+        Ok(())
+    }
+
+    /// Reads the clock, and adds the time that has passed to `time`, but at most one second. Returns the time
+    /// that has passed since the last look.
+    fn look(&mut self) -> Result<Duration, PeersFault> {
+        let Ok(now) = Instant::now(self.rt) else {
+            return Err(PeersFault);
+        };
+        let passed = now.duration_since(self.clock);
+        self.clock = now;
+        self.time = self
+            .time
+            .saturating_add(passed.min(Duration::from_secs(LONGEST_STEP)));
+        Ok(passed)
     }
 }
 
-impl<'r, R: Clock + RandomSource> Peers for Sockets<'r, R> {
+impl<'r, R: Clock + RandomSource + Log> Peers for Sockets<'r, R> {
     ghost use Rattle.std.specs.Prelude.{false, []};
 
     ghost is_known = { false };

@@ -1,28 +1,47 @@
-//! The open connections, and the queue of those that have work to do.
+//! The queue of connections that have work to do.
 ghost use Rattle.std.specs.Prelude.{◌≡◌, ◌<◌, ◌≤◌, ◌↔◌, IsTrue, length};
 ghost use Rattle.std.specs.BTreeMap.{btree_map_len};
 ghost use Rattle.scim_sockets.specs.Connections.{FitsIn};
 
+use crate::authorization::authorization;
+use crate::clients::Clients;
 use crate::connection::{Connection, Turn};
+use crate::counts::Counts;
+use crate::open_connections::{MOST_OPEN, Open};
+use crate::time_limits::Limits;
 use mio::Token;
 use mio::event::Event;
 use std::alloc::{AllocError, Global};
-use std::collections::{BTreeMap, VecDeque};
-use std::time::{Duration, Instant};
-
-/// The maximum number of open connections. Further connections wait in the system's queue.
-const MOST_OPEN: usize = 1024;
+use std::cmp::Reverse;
+use std::collections::BinaryHeap;
+use std::time::Duration;
 
 /// The token of the listener in the system's reports.
 pub(crate) const LISTENER: Token = Token(usize::MAX);
 
+/// By how much the share of a client may have grown, in milliseconds, since its connection was queued.
+const SLACK: u64 = 1;
+
+/// The part of the time that counts as used by all clients. It forgets what a client has used, and lets a
+/// connection wait for at most eight times the lead that a client may have.
+const FADING: u32 = 8;
+
 /// An entry of the queue: the listener or a connection.
-#[derive(Clone, Copy)]
+#[derive(Clone, Copy, PartialEq, Eq, PartialOrd, Ord)]
 pub(crate) enum Place {
     /// The listener, which accepts a connection.
     Door,
     /// The connection with this number.
     Connection(u64),
+}
+
+/// A place in the queue. The entry with the least share is the next, and among equals the one that was queued
+/// first.
+#[derive(Clone, Copy, PartialEq, Eq, PartialOrd, Ord)]
+struct Entry {
+    share: Duration,
+    order: u64,
+    place: Place,
 }
 
 /// Whether connections may be waiting to be accepted.
@@ -38,39 +57,50 @@ enum Door {
 
 /// The open connections, and the queue of those that have work to do.
 ///
-/// A connection with work to do is queued at most once. So a connection that sends bytes without a pause is
-/// read at most once between two polls, and the queue never outgrows its initial capacity.
+/// A connection with work to do is queued at most once, so the queue never outgrows its initial capacity. The
+/// connection whose client has the least share of the server's time is the next. A connection whose turn it was
+/// is queued again when its turn is over and the time that it took is known.
 #[derive(Drop)]
 pub(crate) struct Turns {
-    connections: BTreeMap<u64, Connection>,
+    connections: Open,
+    clients: Clients,
     // The capacity suffices for the listener and all connections.
-    queue: VecDeque<Place>,
+    queue: BinaryHeap<Reverse<Entry>>,
+    // The number of entries queued so far.
+    queued: u64,
+    // The share of the client that was served last.
+    share: Duration,
+    // The connection whose turn it is.
+    served: Option<u64>,
     door: Door,
-    ghost few: { btree_map_len connections ≤ 1024 },
 }
 
 impl Turns {
     /// Returns an empty set of connections, with an empty queue.
     pub(crate) fn new(alloc: Global) -> Result<Turns, AllocError> {
         Ok(Turns {
-            queue: VecDeque::with_capacity(alloc, MOST_OPEN + 1)?,
-            connections: BTreeMap::new(alloc),
+            queue: BinaryHeap::with_capacity(alloc, MOST_OPEN + 1)?,
+            clients: Clients::new(alloc)?,
+            connections: Open::new(alloc),
+            queued: 0,
+            share: Duration::from_secs(0),
+            served: None,
             door: Door::Empty,
         })
     }
 
     /// Whether no connection is open.
     pub(crate) fn is_empty(&self) -> bool
-        ensures { IsTrue result ↔ (btree_map_len self.now.connections ≡ 0) }
+        ensures { IsTrue result ↔ (btree_map_len self.now.connections.by_number ≡ 0) }
     {
         self.connections.is_empty()
     }
 
     /// Whether the maximum number of connections is open.
     pub(crate) fn is_full(&self) -> bool
-        ensures { IsTrue result ↔ (1024 ≤ btree_map_len self.now.connections) }
+        ensures { IsTrue result ↔ (1024 ≤ btree_map_len self.now.connections.by_number) }
     {
-        self.connections.len() >= MOST_OPEN
+        self.connections.is_full()
     }
 
     /// Returns the length of the queue.
@@ -78,24 +108,64 @@ impl Turns {
         self.queue.len()
     }
 
-    /// Removes the next entry of the queue.
-    pub(crate) fn pop(&mut self) -> Option<Place> {
-        let place = self.queue.pop_front();
-        if let Some(Place::Door) = place {
-            self.door = Door::Later;
-        }
-        place
+    /// Queues a place at a share.
+    fn push(&mut self, place: Place, share: Duration)
+        ensures { self.new.connections ≡ self.old.connections }
+    {
+        let order = self.queued;
+        self.queued = order.saturating_add(1);
+        let _ = self.queue.push(Reverse(Entry {
+            share,
+            order,
+            place,
+        }));
     }
 
-    /// Queues the connection with the number, if it exists, has work to do and isn't queued.
-    fn enqueue(&mut self, number: u64) {
-        let begins = match self.connections.get_mut(&number) {
-            Some(connection) => connection.begins_to_wait(),
-            None => false,
+    /// Removes the next entry of the queue. Returns `None` if the queue is empty, or if the next connection is
+    /// queued again because its client has used more of its share meanwhile.
+    pub(crate) fn pop(&mut self) -> Option<Place> {
+        let entry = self.queue.pop()?.0;
+        let Place::Connection(number) = entry.place else {
+            self.door = Door::Later;
+            return Some(Place::Door);
         };
-        if begins {
-            let _ = self.queue.push_back(Place::Connection(number));
+        self.share = self.share.max(entry.share);
+        let share = self.share_of(number);
+        if share > entry.share.saturating_add(Duration::from_millis(SLACK)) && share > self.share {
+            self.push(entry.place, share);
+            return None;
         }
+        self.served = Some(number);
+        Some(entry.place)
+    }
+
+    /// Returns the share of the client of a connection; 0 if the connection has ended, so that it leaves next.
+    fn share_of(&self, number: u64) -> Duration {
+        match self.connections.client_of(number) {
+            Some(client) => self.clients.share(client, self.share),
+            None => Duration::from_secs(0),
+        }
+    }
+
+    /// Queues the connection with the number, if it exists, has work to do and isn't queued. A connection whose
+    /// turn it is isn't queued before its turn is over.
+    fn enqueue(&mut self, number: u64) {
+        if self.served != Some(number) && self.connections.begins_to_wait(number) {
+            let share = self.share_of(number);
+            self.push(Place::Connection(number), share);
+        }
+    }
+
+    /// Ends the turn of the connection that was served last, which took this time. Queues it if it has work to
+    /// do.
+    pub(crate) fn settle(&mut self, cost: Duration) {
+        if let Some(number) = self.served.take() {
+            if let Some(client) = self.connections.client_of(number) {
+                self.clients.charge(client, self.share, cost);
+            }
+            self.enqueue(number);
+        }
+        self.share = self.share.saturating_add(cost / FADING);
     }
 
     /// Records that connections may be waiting to be accepted, and queues the listener unless it is queued.
@@ -104,12 +174,14 @@ impl Turns {
     {
         if self.door != Door::Waiting {
             self.door = Door::Waiting;
-            let _ = self.queue.push_back(Place::Door);
+            self.push(Place::Door, self.share);
         }
     }
 
     /// Records that no connection is waiting to be accepted.
-    pub(crate) fn close_door(&mut self) {
+    pub(crate) fn close_door(&mut self)
+        ensures { self.new.connections ≡ self.old.connections }
+    {
         self.door = Door::Empty;
     }
 
@@ -126,90 +198,111 @@ impl Turns {
             return self.open_door();
         }
         let number = event.token().0 as u64;
-        if let Some(connection) = self.connections.get_mut(&number) {
-            // An error counts as readable and writable: the next call on the socket returns the error.
-            let fails = event.is_error() || event.is_read_closed() || event.is_write_closed();
-            connection.note(event.is_readable() || fails, event.is_writable() || fails);
-        }
+        // An error counts as readable and writable: the next call on the socket returns the error.
+        let fails = event.is_error() || event.is_read_closed() || event.is_write_closed();
+        self.connections.note(
+            number,
+            event.is_readable() || fails,
+            event.is_writable() || fails,
+        );
         self.enqueue(number);
     }
 
     /// Adds a connection and queues it. Returns false and drops it if memory runs out.
     pub(crate) fn join(&mut self, number: u64, connection: Connection) -> bool
-        requires room { btree_map_len self.old.connections < 1024 }
+        requires room { btree_map_len self.old.connections.by_number < 1024 }
     {
-        let has_joined = self.connections.insert(number, connection).is_ok();
+        let has_joined = self.connections.insert(number, connection);
         self.enqueue(number);
         has_joined
     }
 
     /// Does the next work of the connection with the number, as [`Connection::turn`] does, and removes the
-    /// connection if it has ended.
-    pub(crate) fn turn(&mut self, number: u64, now: Instant, buffer: &mut [u8]) -> Turn
+    /// connection if it has ended. The turn lasts until it is settled.
+    pub(crate) fn turn(&mut self, number: u64, now: Duration, buffer: &mut [u8]) -> Turn
         ensures { FitsIn buffer.new result }
     {
-        let turn = match self.connections.get_mut(&number) {
-            Some(connection) => connection.turn(now, buffer),
-            None => Turn::Nothing,
-        };
-        if let Turn::Left = turn {
-            self.connections.remove(&number);
-            self.reopen_door();
-        } else {
-            self.enqueue(number);
+        let turn = self.connections.turn(number, now, buffer);
+        match turn {
+            Turn::Left => {
+                let client = self.connections.remove(number);
+                self.clients.leave(client);
+                self.reopen_door();
+            }
+            Turn::Read(count) => self.identify(number, &buffer[..count]),
+            Turn::Nothing | Turn::Piece(_) | Turn::Ready => (),
         }
         turn
     }
 
+    /// Notes the client of a connection if the bytes that it sent have a token.
+    fn identify(&mut self, number: u64, bytes: &[u8]) {
+        let (Some(token), Some(client)) = (authorization(bytes), self.connections.client_of(number))
+        else {
+            return;
+        };
+        if !self.clients.has_name(client, token) {
+            self.clients.leave(client);
+            let client = self.clients.enter(token);
+            self.connections.set_client(number, client);
+        }
+    }
+
     /// Offers bytes to a connection, and returns the length of the prefix that it took.
-    pub(crate) fn write(&mut self, number: u64, now: Instant, bytes: &[u8]) -> usize
+    pub(crate) fn write(&mut self, number: u64, now: Duration, bytes: &[u8]) -> usize
         ensures count { result ≤ length bytes.now }
     {
-        let count = match self.connections.get_mut(&number) {
-            Some(connection) => connection.write(now, bytes),
-            None => 0,
-        };
+        let count = self.connections.write(number, now, bytes);
         self.enqueue(number);
         count
     }
 
     /// Shuts a connection, as [`Connection::shut`] does.
-    pub(crate) fn shut(&mut self, number: u64, now: Instant) {
-        if let Some(connection) = self.connections.get_mut(&number) {
-            connection.shut(now);
-        }
+    pub(crate) fn shut(&mut self, number: u64, now: Duration) {
+        self.connections.shut(number, now);
         self.enqueue(number);
     }
 
     /// Drops the socket of a connection.
     pub(crate) fn end(&mut self, number: u64) {
-        if let Some(connection) = self.connections.get_mut(&number) {
-            connection.end();
-        }
+        self.connections.end(number);
         self.enqueue(number);
     }
 
-    /// Drops the sockets of the connections for which [`Connection::is_late`] is true.
-    pub(crate) fn end_late(&mut self, now: Instant, idle: Duration) {
-        end_late(&mut self.connections, &mut self.queue, now, idle);
+    /// Ends the connection that has been idle longest, if one is idle, and counts it.
+    pub(crate) fn end_idlest(&mut self, counts: &mut Counts) {
+        if let Some(number) = self.connections.idlest() {
+            counts.add_gave_way();
+            self.end(number);
+        }
     }
-}
 
-/// Drops the sockets of late connections, and queues the connections so that they are removed.
-fn end_late(
-    connections: &mut BTreeMap<u64, Connection>,
-    queue: &mut VecDeque<Place>,
-    now: Instant,
-    idle: Duration,
-)
-    ensures { btree_map_len connections.new ≡ btree_map_len connections.old }
-{
-    for (number, connection) in connections.iter_mut() {
-        if connection.is_late(now, idle) {
-            connection.end();
-            if connection.begins_to_wait() {
-                let _ = queue.push_back(Place::Connection(*number));
-            }
+    /// Ends the connection with the greatest weight, and counts it, if the weights of all together exceed a
+    /// bound.
+    pub(crate) fn relieve(&mut self, most: u64, counts: &mut Counts) {
+        if self.connections.total() <= most {
+            return;
+        }
+        self.connections.count_total();
+        if self.connections.total() > most
+            && let Some(number) = self.connections.heaviest()
+        {
+            counts.add_over_memory();
+            self.end(number);
+        }
+    }
+
+    /// Drops the sockets of the connections that are late, and counts them. Counts the weights anew.
+    pub(crate) fn end_late(&mut self, now: Duration, limits: &Limits, counts: &mut Counts) {
+        self.connections.count_total();
+        let mut from = 0;
+        for _ in 0..MOST_OPEN {
+            let Some((number, late)) = self.connections.late_from(from, now, limits) else {
+                return;
+            };
+            counts.add_late(late);
+            self.end(number);
+            from = number.saturating_add(1);
         }
     }
 }

@@ -1,0 +1,149 @@
+//! The clients, and how much of the server's time each has used.
+use std::alloc::{AllocError, Global};
+use std::time::Duration;
+
+/// The place of connections that have sent no token.
+pub(crate) const NOBODY: usize = 0;
+
+/// The maximum number of clients, with [`NOBODY`].
+const MOST_CLIENTS: usize = 1025;
+
+/// The length of the longest token that is told from another one in full.
+const LONGEST_NAME: usize = 256;
+
+/// The most by which a client may be ahead of the others, in milliseconds.
+const LEAD: u64 = 250;
+
+/// A client, which is what connections with the same token have in common.
+#[derive(Drop)]
+struct Client {
+    // The first bytes of the token; empty at a free place.
+    name: Vec<u8>,
+    // The number of its connections.
+    connections: u64,
+    // The share of the server's time that it has used.
+    used: Duration,
+}
+
+/// The clients, and the share of the server's time that each has used.
+///
+/// A client that used less than the client that was served last has used as much as that one: nobody saves up
+/// time. A client is never more than a quarter of a second ahead. What a client with the least share asks is
+/// answered first. So each client has the same part of the server's time, however many connections it has and
+/// however dear its requests are.
+#[derive(Drop)]
+pub(crate) struct Clients {
+    places: Vec<Client>,
+    alloc: Global,
+}
+
+impl Clients {
+    /// Allocates the places. All are free.
+    pub(crate) fn new(alloc: Global) -> Result<Clients, AllocError> {
+        let mut places = Vec::with_capacity(alloc, MOST_CLIENTS)?;
+        for _ in 0..MOST_CLIENTS {
+            let client = Client {
+                name: Vec::new(alloc),
+                connections: 0,
+                used: Duration::from_secs(0),
+            };
+            if places.push(client).is_err() {
+                return Err(AllocError);
+            }
+        }
+        Ok(Clients { places, alloc })
+    }
+
+    /// Whether the client at a place has this token.
+    pub(crate) fn has_name(&self, place: usize, token: &[u8]) -> bool {
+        match self.places.get(place) {
+            Some(client) => client.name.as_slice() == name_of(token),
+            None => false,
+        }
+    }
+
+    /// Adds a connection to the client with a token, and returns its place. Returns [`NOBODY`] if all places
+    /// are taken or memory runs out.
+    pub(crate) fn enter(&mut self, token: &[u8]) -> usize {
+        let name = name_of(token);
+        let place = match self.named(name) {
+            Some(place) => place,
+            None => self.rename(self.stalest(), name),
+        };
+        if let Some(client) = self.places.get_mut(place) {
+            client.connections = client.connections.saturating_add(1);
+        }
+        place
+    }
+
+    /// Removes a connection from the client at a place. What the client has used is kept until another client
+    /// needs the place.
+    pub(crate) fn leave(&mut self, place: usize) {
+        if let Some(client) = self.places.get_mut(place) {
+            client.connections = client.connections.saturating_sub(1);
+        }
+    }
+
+    /// Returns the place of the client with a name, if there is one.
+    fn named(&self, name: &[u8]) -> Option<usize> {
+        self.places
+            .iter()
+            .position(|client| client.name.as_slice() == name)
+    }
+
+    /// Returns the place that has no connection and has used the least; [`NOBODY`] if each has a connection.
+    fn stalest(&self) -> usize {
+        let mut stalest = NOBODY;
+        let mut least = Duration::MAX;
+        for (place, client) in self.places.iter().enumerate() {
+            if place != NOBODY && client.connections == 0 && client.used < least {
+                stalest = place;
+                least = client.used;
+            }
+        }
+        stalest
+    }
+
+    /// Gives a place to a client with a name, and returns the place; [`NOBODY`] if memory runs out.
+    fn rename(&mut self, place: usize, name: &[u8]) -> usize {
+        if place == NOBODY {
+            return NOBODY;
+        }
+        let Ok(name) = Vec::from_slice(self.alloc, name) else {
+            return NOBODY;
+        };
+        match self.places.get_mut(place) {
+            Some(client) => {
+                client.name = name;
+                client.used = Duration::from_secs(0);
+                place
+            }
+            None => NOBODY,
+        }
+    }
+
+    /// Returns the share of the client at a place, where `now` is the share of the one that was served last.
+    pub(crate) fn share(&self, place: usize, now: Duration) -> Duration {
+        match self.places.get(place) {
+            Some(client) => client.used.max(now).min(latest(now)),
+            None => now,
+        }
+    }
+
+    /// Adds the time that a request of the client at a place took, which was served at the share `now`.
+    pub(crate) fn charge(&mut self, place: usize, now: Duration, cost: Duration) {
+        if let Some(client) = self.places.get_mut(place) {
+            client.used = client.used.max(now).saturating_add(cost).min(latest(now));
+        }
+    }
+}
+
+/// Returns the greatest share of a client while the one that was served last has the share `now`.
+fn latest(now: Duration) -> Duration {
+    now.saturating_add(Duration::from_millis(LEAD))
+}
+
+/// Returns the part of a token that tells it from other tokens.
+fn name_of(token: &[u8]) -> &[u8] {
+    &token[..token.len().min(LONGEST_NAME)]
+}
