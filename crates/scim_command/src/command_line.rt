@@ -162,6 +162,31 @@ const COMMANDS: [CommandText; 8] = [
                 help: "Exit after this many connections (default: run until stopped)",
             },
             OptionText {
+                name: "idle-seconds",
+                form: OptionForm::WithDefault("N", "60"),
+                help: "Close a connection that is silent for longer",
+            },
+            OptionText {
+                name: "head-seconds",
+                form: OptionForm::WithDefault("N", "30"),
+                help: "Close a connection whose head takes longer from its first byte",
+            },
+            OptionText {
+                name: "message-seconds",
+                form: OptionForm::WithDefault("N", "120"),
+                help: "Close a connection whose message takes longer from its first byte",
+            },
+            OptionText {
+                name: "reply-rate",
+                form: OptionForm::WithDefault("N", "1024"),
+                help: "Close a connection that takes fewer bytes of a reply per second, after its first minute",
+            },
+            OptionText {
+                name: "memory",
+                form: OptionForm::WithDefault("MIB", "256"),
+                help: "Hold at most this many MiB of unfinished messages and waiting replies",
+            },
+            OptionText {
                 name: "no-cache",
                 form: OptionForm::Flag,
                 help: "Read resources from the database instead of caching them in memory",

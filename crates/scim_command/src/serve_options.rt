@@ -19,6 +19,16 @@ pub struct ServeOptions<'a> {
     pub base: &'a str,
     /// The number of connections after which the server ends; if `None`, it runs until stopped.
     pub connections: Option<u64>,
+    /// The seconds of silence after which a connection is closed.
+    pub idle_seconds: u64,
+    /// The seconds that a head may take.
+    pub head_seconds: u64,
+    /// The seconds that a message may take.
+    pub message_seconds: u64,
+    /// The bytes per second that a client must take of a long reply.
+    pub reply_rate: u64,
+    /// The MiB of unfinished messages and waiting replies that the server holds.
+    pub memory: u64,
     /// Whether resources are also cached in memory.
     pub has_cache: bool,
 }
@@ -34,6 +44,11 @@ impl<'a> ServeOptions<'a> {
             port: port_of(text_of(matches, "port")?)?,
             base: text_of(matches, "base")?,
             connections: connections_of(matches)?,
+            idle_seconds: number_of(text_of(matches, "idle-seconds")?)?,
+            head_seconds: number_of(text_of(matches, "head-seconds")?)?,
+            message_seconds: number_of(text_of(matches, "message-seconds")?)?,
+            reply_rate: number_of(text_of(matches, "reply-rate")?)?,
+            memory: number_of(text_of(matches, "memory")?)?,
             has_cache: !matches.get_flag("no-cache"),
         })
     }

@@ -10,12 +10,13 @@ use scim_route::Routes;
 use scim_serve::serve;
 use scim_service::Service;
 use scim_shelf::Shelf;
-use scim_sockets::Sockets;
+use scim_sockets::{Limits, Sockets};
 use scim_text::Failed;
 use scim_token::Tokens;
 use sqlite::{Alter, Connection};
 use std::alloc::Global;
 use std::io::Write;
+use std::time::Duration;
 
 /// The command `serve` with its options and the contents of the policy and token files.
 #[derive(Drop)]
@@ -88,10 +89,22 @@ fn serve_at_port<S: Shelf>(
     match Sockets::listen(rt, rt.alloc(), options.port, options.connections) {
         Ok(sockets) => {
             let mut sockets = sockets;
+            sockets.set_limits(limits_of(options));
             serve_over(rt, &mut sockets, hub)
         }
         Err(Failed::Because(_)) => Err(CommandFault::CannotListen),
         Err(Failed::NoMemory) => Err(CommandFault::Run(RunFault::NoMemory)),
+    }
+}
+
+/// Returns the limits of connections that the options set.
+fn limits_of(options: &ServeOptions<'_>) -> Limits {
+    Limits {
+        idle: Duration::from_secs(options.idle_seconds),
+        head: Duration::from_secs(options.head_seconds),
+        message: Duration::from_secs(options.message_seconds),
+        rate: options.reply_rate,
+        memory: options.memory.saturating_mul(1 << 20),
     }
 }
 
