@@ -7,13 +7,13 @@ ghost use Rattle.std.specs.Prelude.{◌≡◌, false};
 use crate::request_parts::{RequestParts, are_answered};
 use scim_audit::{AuditRow, print_row};
 use scim_cell::Text;
-use scim_json::stored_text;
+use scim_json::{read_documents, stored_text};
 use scim_policy_file::read_policy;
-use scim_samples::{BASE, POLICY};
+use scim_samples::{BASE, POLICY, USERS};
 use scim_schema::Kind;
 use scim_service::Service;
 use scim_shelf::all_of;
-use scim_store::SqlShelf;
+use scim_store::{SqlShelf, import};
 use scim_store_tables::is_empty_database;
 use scim_text::NoMemory;
 use scim_value::Resource;
@@ -23,6 +23,8 @@ use std::alloc::Global;
 /// Work on a database.
 #[derive(Clone, Copy)]
 pub(crate) enum Work<'a> {
+    /// Imports the sample users into a new database. The result is an empty text.
+    Fill,
     /// Answers these requests over the store. The result is an empty text, or `None` if a reply has the
     /// status 500.
     Answer(&'a [RequestParts]),
@@ -31,8 +33,8 @@ pub(crate) enum Work<'a> {
     Look,
 }
 
-/// Opens the store in a database and does the work. Returns the result of the work and the connection. The
-/// result is `None` if the store can't be opened or the work fails.
+/// Does the work on a database. Returns the result of the work and the connection. The result is `None` if the
+/// store can't be opened or the work fails.
 pub(crate) fn work_over<S: Alter>(
     alloc: Global,
     connection: Connection<S>,
@@ -40,12 +42,35 @@ pub(crate) fn work_over<S: Alter>(
 ) -> (Option<String>, Connection<S>)
     requires { connection.in_transaction ≡ false }
 {
+    match work {
+        Work::Fill => fill(alloc, connection),
+        Work::Answer(requests) => match SqlShelf::open(alloc, connection, BASE) {
+            Ok(shelf) => answer(alloc, shelf, requests),
+            Err((_, connection)) => (None, connection),
+        },
+        Work::Look => look_into(alloc, connection),
+    }
+}
+
+fn fill<S: Alter>(alloc: Global, connection: Connection<S>) -> (Option<String>, Connection<S>)
+    requires { connection.in_transaction ≡ false }
+{
+    let mut connection = connection;
+    let Ok(resources) = read_documents(alloc, BASE, USERS) else {
+        return (None, connection);
+    };
+    match import(&mut connection, alloc, BASE, resources.as_slice()) {
+        Ok(()) => (Some(String::new(alloc)), connection),
+        Err(_) => (None, connection),
+    }
+}
+
+fn look_into<S: Alter>(alloc: Global, connection: Connection<S>) -> (Option<String>, Connection<S>)
+    requires { connection.in_transaction ≡ false }
+{
     let has_tables = !is_empty_database(&connection);
     match SqlShelf::open(alloc, connection, BASE) {
-        Ok(shelf) => match work {
-            Work::Answer(requests) => answer(alloc, shelf, requests),
-            Work::Look => look(alloc, shelf, has_tables),
-        },
+        Ok(shelf) => look(alloc, shelf, has_tables),
         Err((_, connection)) => (None, connection),
     }
 }

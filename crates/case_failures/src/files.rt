@@ -46,11 +46,10 @@ impl Contents {
         }
     }
 
-    /// Returns the contents after a store in a new database has answered these requests, or `None` if this
-    /// fails.
-    pub(crate) fn after(alloc: Global, requests: &[RequestParts]) -> Option<Contents> {
+    /// Returns the contents of the files of a database with the sample users, or `None` if memory runs out.
+    pub(crate) fn sample(alloc: Global) -> Option<Contents> {
         let files = Contents::none(alloc).files(alloc, ALL)?;
-        let (told, files) = over_files(alloc, files, Work::Answer(requests));
+        let (told, files) = over_files(alloc, files, Work::Fill);
         told?;
         match copied(alloc, &files) {
             Ok(contents) => Some(contents),

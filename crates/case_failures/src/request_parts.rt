@@ -9,28 +9,50 @@ use scim_text::Moment;
 use scim_view::Wanted;
 use std::alloc::Global;
 
-/// A request: its operation, the kind and the id of its resource, and its body, which is empty if the request
+/// What a request does.
+#[derive(Clone, Copy)]
+pub(crate) enum Action {
+    Create,
+    Patch,
+    Replace,
+    Remove,
+}
+
+/// A request: what it does, the kind and the id of its resource, and its body, which is empty if the request
 /// has no body.
 #[derive(Clone, Copy)]
 pub(crate) struct RequestParts {
-    pub(crate) op: Op,
+    pub(crate) action: Action,
     pub(crate) kind: Kind,
     pub(crate) id: &'static str,
     pub(crate) body: &'static str,
 }
 
+impl Action {
+    fn op(self) -> Op {
+        match self {
+            Action::Create => Op::Create,
+            Action::Patch | Action::Replace => Op::Modify,
+            Action::Remove => Op::Delete,
+        }
+    }
+}
+
 fn ask_of(alloc: Global, parts: RequestParts) -> Option<Ask> {
-    match parts.op {
-        Op::Create => match read_body(alloc, parts.kind, UseFor::Creating, parts.body) {
+    match parts.action {
+        Action::Create => match read_body(alloc, parts.kind, UseFor::Creating, parts.body) {
             Ok(draft) => Some(Ask::Create(draft, Wanted::Default)),
             Err(_) => None,
         },
-        Op::Modify => match read_patch(alloc, parts.kind, parts.body) {
+        Action::Replace => match read_body(alloc, parts.kind, UseFor::Replacing, parts.body) {
+            Ok(draft) => Some(Ask::Replace(draft, Wanted::Default)),
+            Err(_) => None,
+        },
+        Action::Patch => match read_patch(alloc, parts.kind, parts.body) {
             Ok(patch) => Some(Ask::Patch(patch, Wanted::Default)),
             Err(_) => None,
         },
-        Op::Delete => Some(Ask::Remove),
-        Op::Read => None,
+        Action::Remove => Some(Ask::Remove),
     }
 }
 
@@ -45,7 +67,7 @@ fn turn_of(alloc: Global, parts: RequestParts) -> Option<Turn> {
         Some(ask) => Some(Turn {
             request: Request {
                 client,
-                op: parts.op,
+                op: parts.action.op(),
                 kind: parts.kind,
                 id: Some(id),
                 ask: Ok(ask),

@@ -23,6 +23,32 @@ impl<'a> Read for Trickle<'a> {
     }
 }
 
+/// A reader that returns one byte at a time, and ends after the last byte. After `left` reads, the next read
+/// fails.
+#[derive(Drop)]
+pub(crate) struct Drip<'a> {
+    pub(crate) bytes: &'a [u8],
+    pub(crate) left: usize,
+}
+
+impl<'a> Read for Drip<'a> {
+    fn read(&mut self, buf: &mut [u8]) -> io::Result<usize> {
+        if self.left == 0 {
+            return Err(ErrorKind::Other.into());
+        }
+        self.left -= 1;
+        if buf.is_empty() {
+            return Ok(0);
+        }
+        let Some((first, rest)) = self.bytes.split_first() else {
+            return Ok(0);
+        };
+        buf[0] = *first;
+        self.bytes = rest;
+        Ok(1)
+    }
+}
+
 /// A writer that takes at most `step` bytes at a call. The call with the number `failing`, counted from 0,
 /// fails with `kind`. Later calls take bytes again.
 #[derive(Drop)]
