@@ -1,10 +1,12 @@
-//! The call `database`, which opens a database.
+//! The calls that open a database.
 ghost use Rattle.std.specs.Prelude.{◌≡◌, false, IfOk};
 
 use crate::audited::Audited;
 use crate::databases::{OverDatabase, base_of, fill, over_new_database};
 use crate::faults::{StoreFault, told_or_fault};
 use case_values::{Case, CaseFault, between, joined, said};
+use scim_schema::Kind;
+use scim_shelf::{Shelf, all_of};
 use scim_store::{OpenFault, SqlShelf};
 use scim_store_tables::foreign_object;
 use sqlite::{Alter, Connection};
@@ -13,6 +15,54 @@ use std::alloc::Global;
 /// Opens a [`prepared`] database. Returns the number of its audit rows, or the error if it can't be opened.
 pub fn database_call(case: &Case<'_>) -> Result<String, CaseFault> {
     told_or_fault(case.alloc, over_new_database(case, &Opening))
+}
+
+/// Opens a database that the statements in the list `sql` make. Returns `ok N`, where N is the number of its
+/// resources, or the error if it can't be opened.
+pub fn verdict_call(case: &Case<'_>) -> Result<String, CaseFault> {
+    told_or_fault(case.alloc, over_new_database(case, &Verdict))
+}
+
+/// Gives the verdict on a database.
+struct Verdict;
+
+impl OverDatabase for Verdict {
+    fn over<S: Alter + Drop>(
+        &self,
+        case: &Case<'_>,
+        connection: Connection<S>,
+    ) -> Result<String, StoreFault> {
+        let connection = prepared(case, connection)?;
+        match SqlShelf::open(case.alloc, connection, base_of(case)) {
+            Ok(shelf) => told_of_resources(case.alloc, shelf),
+            Err((fault, _connection)) => Ok(fault_text(case.alloc, fault)?),
+        }
+    }
+}
+
+/// Returns the number of resources of a store, and closes the store.
+fn told_of_resources<S: Audited>(alloc: Global, shelf: S) -> Result<String, StoreFault> {
+    let mut shelf = shelf;
+    let counts = (
+        count_of(alloc, &mut shelf, Kind::User),
+        count_of(alloc, &mut shelf, Kind::Group),
+    );
+    shelf.close();
+    match counts {
+        (Some(users), Some(groups)) => {
+            let count = users.saturating_add(groups);
+            Ok(between(alloc, "ok ", &count, "")?)
+        }
+        _ => Err(StoreFault::NotRead),
+    }
+}
+
+/// Returns the number of resources of a kind, or `None` if they can't be read.
+fn count_of<S: Shelf>(alloc: Global, shelf: &mut S, kind: Kind) -> Option<usize> {
+    match all_of(alloc, shelf, kind) {
+        Ok(resources) => Some(resources.len()),
+        Err(_) => None,
+    }
 }
 
 /// Opens a database as a store.
@@ -35,8 +85,8 @@ impl OverDatabase for Opening {
 /// Imports the users file in the argument `users` into the database, runs the statements in the list `sql`,
 /// and returns the connection.
 ///
-/// If the argument `empty` is true, imports no users, so the database has only the tables that the statements
-/// create. Fails with `NotRun` if a statement fails or the statements leave a transaction open.
+/// If the argument `empty` is true, or the case has a verdict, imports no users, so the database has only the
+/// tables that the statements create. Fails with `NotRun` if a statement fails or the statements leave a transaction open.
 pub fn prepared<S: Alter + Drop>(
     case: &Case<'_>,
     connection: Connection<S>,
@@ -45,7 +95,7 @@ pub fn prepared<S: Alter + Drop>(
     ensures { IfOk result (λ connection. connection.in_transaction ≡ false) }
 {
     let mut connection = connection;
-    if !case.is_true("empty") {
+    if !case.is_true("empty") && !case.has("said") {
         fill(case, "users", &mut connection)?;
     }
     run_statements(case, &mut connection)?;
@@ -77,20 +127,28 @@ fn told_of_audit<S: Audited>(alloc: Global, shelf: S) -> Result<String, StoreFau
     Ok(between(alloc, "opens, rows of the audit: ", &rows?.len(), "")?)
 }
 
-/// Returns the words for the fault with which a database can't be opened.
+/// Returns the words for the fault with which a database can't be opened. If the database can't be used, adds
+/// the first object of another program, if any.
 fn told_of_fault<S: Alter>(
     alloc: Global,
     fault: OpenFault,
     connection: &Connection<S>,
 ) -> Result<String, CaseFault> {
     match fault {
+        OpenFault::Store => told_of_unusable(alloc, connection),
+        _ => fault_text(alloc, fault),
+    }
+}
+
+/// Returns the words for the fault with which a database can't be opened.
+fn fault_text(alloc: Global, fault: OpenFault) -> Result<String, CaseFault> {
+    match fault {
         OpenFault::WrongVersion => said(alloc, "wrong version"),
         OpenFault::Damaged(id) => {
             let id = id.text(alloc)?;
             joined(alloc, &["damaged ", id.as_str()])
         }
-        OpenFault::Store => told_of_unusable(alloc, connection),
-        OpenFault::Device => said(alloc, "cannot be used"),
+        OpenFault::Store | OpenFault::Device => said(alloc, "cannot be used"),
         OpenFault::NoMemory => Err(CaseFault::NoMemory),
     }
 }

@@ -5,13 +5,15 @@ use crate::database_calls::prepared;
 use crate::databases::{OverDatabase, opened, over_new_database};
 use crate::faults::{StoreFault, told_or_fault};
 use case_policies::policy;
-use case_values::{Case, CaseFault, shown, written_text};
+use case_values::{Case, CaseFault, joined, said, shown, written_text};
 use scim_cell::Id;
-use scim_command_database::{Question, explain, export, import, print_audit};
+use scim_command::{CommandFault, ExportOptions};
+use scim_command_database::{DatabaseWork, Question, explain, export, import, print_audit};
 use scim_policy::Policy;
 use scim_samples::{BASE, USERS};
 use scim_store::SqlShelf;
 use sqlite::{Alter, Connection};
+use std::alloc::Global;
 
 /// A command over a database.
 #[derive(Clone, Copy)]
@@ -25,6 +27,8 @@ pub enum DatabaseCommand {
     /// Explains the decision of the policy on the arguments `client`, `op`, `kind`, `id` and `leaf`, or the
     /// decisions on all leaves if `leaf` isn't given.
     Explain,
+    /// Exports the users file of the database, and returns how the program ends instead of the output.
+    Ending,
 }
 
 /// Returns the output of a command over a database, followed by the text of its error if it failed.
@@ -44,6 +48,7 @@ impl OverDatabase for DatabaseCommand {
             DatabaseCommand::Audit => audited(case, connection),
             DatabaseCommand::Export => exported(case, connection),
             DatabaseCommand::Explain => explained(case, connection),
+            DatabaseCommand::Ending => ending(case, connection),
         }
     }
 }
@@ -92,6 +97,28 @@ fn export_text<S: Alter + Drop>(
     let mut written = Vec::new(case.alloc);
     let done = export(case.alloc, shelf, &mut written);
     Ok(written_text(case.alloc, written.as_slice(), done)?)
+}
+
+/// Runs the program's command `export` on a database. Returns the line of its fault, if it failed, and the exit
+/// status.
+fn ending<S: Alter + Drop>(case: &Case<'_>, connection: Connection<S>) -> Result<String, StoreFault>
+    requires { connection.in_transaction ≡ false }
+{
+    let options = ExportOptions { database: "" };
+    let mut written = Vec::new(case.alloc);
+    let (done, _connection) = options.over(case.alloc, connection, &mut written);
+    Ok(ending_text(case.alloc, &done)?)
+}
+
+fn ending_text(alloc: Global, done: &Result<(), CommandFault>) -> Result<String, CaseFault> {
+    match done {
+        Ok(()) => said(alloc, "exit 0"),
+        Err(fault) => {
+            let line = shown(alloc, fault)?;
+            let status = shown(alloc, &fault.exit_status())?;
+            joined(alloc, &[line.as_str(), ", exit ", status.as_str()])
+        }
+    }
 }
 
 /// Imports the text in the argument `file` into a database. Returns the users file exported from it, or the

@@ -9,6 +9,7 @@ mod database_commands;
 mod databases;
 mod exchanges;
 mod faults;
+mod long_lists;
 mod refusal_calls;
 mod service_calls;
 mod services;
@@ -26,9 +27,11 @@ enum Call {
     Service,
     ServiceRun,
     Command(DatabaseCommand),
+    LongList,
+    Verdict,
 }
 
-static CALLS: [(&str, Call); 9] = [
+static CALLS: [(&str, Call); 12] = [
     ("steps", Call::Steps),
     ("database", Call::Database),
     ("refusal", Call::Refusal),
@@ -38,6 +41,9 @@ static CALLS: [(&str, Call); 9] = [
     ("export", Call::Command(DatabaseCommand::Export)),
     ("import", Call::Command(DatabaseCommand::Import)),
     ("explain_kept", Call::Command(DatabaseCommand::Explain)),
+    ("database_ending", Call::Command(DatabaseCommand::Ending)),
+    ("database_verdict", Call::Verdict),
+    ("long_list", Call::LongList),
 ];
 
 /// Returns the result of the case's call, or `None` if it isn't a call of this crate.
@@ -49,6 +55,8 @@ pub fn answer(case: &Case<'_>, call: &str) -> Option<Result<String, CaseFault>> 
         Call::Refusal => refusal_calls::refusal_call(case),
         Call::Service => service_calls::service_call(case),
         Call::ServiceRun => service_calls::run_call(case),
+        Call::LongList => long_lists::list_call(case),
+        Call::Verdict => database_calls::verdict_call(case),
         Call::Command(command) => database_commands::command_call(case, command),
     })
 }
