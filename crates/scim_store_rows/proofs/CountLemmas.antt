@@ -1,6 +1,6 @@
 -- The audit rows, counted while they are given.
 use Rattle.std.proofs.Common.{◌≡◌, ◌≢◌, ℕ, ◌+◌, ◌-◌, ◌<◌, ◌≤◌, suc, refl, sym, ◌∙◌, ap, subst, arith, List, [], ◌∷◌, ◌++◌, length, get_or}
-use Rattle.std.specs.Prelude.{All, Some, None, Ok}
+use Rattle.std.specs.Prelude.{All, Some, None, Result, Ok, Err, OnErr}
 use Rattle.std.proofs.lemmas.List.{length-append, append_assoc, get_or-append_right}
 use Rattle.std.proofs.lemmas.List.Elements.{All-nil, All-cons, All-append}
 use Rattle.sqlite_trees.specs.declared.store.Store as store
@@ -25,6 +25,11 @@ use Rattle.scim_store_rows.specs.AuditBack.{IsSound}
 use Rattle.scim_store_rows.specs.Auditing.{IsAuditRow, CountsAudit, TellsCount}
 use Rattle.scim_store_rows.proofs.ReadLemmas.{length-audit_rows, append-audit_rows, none_read}
 use Rattle.scim_store_rows.proofs.WalkLemmas.{unchanged_itself}
+
+-- what holds in any case holds after an error
+pub on_err : {T E P : Type 0} (r : Result T E) → P → OnErr r P
+on_err (Ok x) holds = tt
+on_err (Err e) holds = holds
 
 -- ---- the rows that were given so far
 
