@@ -12,7 +12,7 @@ const MOST_CLIENTS: usize = 1025;
 const LONGEST_NAME: usize = 256;
 
 /// The most by which a client may be ahead of the others, in milliseconds.
-const LEAD: u64 = 250;
+const LEAD: u64 = 100;
 
 /// A client, which is what connections with the same token have in common.
 #[derive(Drop)]
@@ -28,9 +28,9 @@ struct Client {
 /// The clients, and the share of the server's time that each has used.
 ///
 /// A client that used less than the client that was served last has used as much as that one: nobody saves up
-/// time. A client is never more than a quarter of a second ahead. What a client with the least share asks is
-/// answered first. So each client has the same part of the server's time, however many connections it has and
-/// however dear its requests are.
+/// time. A client is never more than a tenth of a second ahead. What a client with the least share asks is
+/// answered first. So a client with many connections or with dear requests delays another one by little more than
+/// the request in hand.
 #[derive(Drop)]
 pub(crate) struct Clients {
     places: Vec<Client>,

@@ -41,7 +41,7 @@ pub(crate) enum Turn {
 }
 
 /// Why a connection is late.
-#[derive(Clone, Copy, PartialEq, Eq)]
+#[derive(Clone, Copy)]
 pub(crate) enum Late {
     /// It was silent, or was shut and not closed by its client.
     Idle,

@@ -4,7 +4,7 @@ use std::fmt;
 
 /// The number of connections that the server closed for each reason, since it began. Connections that were
 /// closed since they were silent aren't counted.
-#[derive(Clone, Copy, Debug, PartialEq, Eq)]
+#[derive(Clone, Copy, PartialEq, Eq)]
 pub struct Counts {
     /// Connections whose head took too long.
     pub late_heads: u64,

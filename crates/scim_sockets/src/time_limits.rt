@@ -24,7 +24,7 @@ pub(crate) const LINGER: u64 = 2;
 const GRACE: u64 = 60;
 
 /// The limits of time for a connection, and of memory for all.
-#[derive(Clone, Copy, Debug, PartialEq, Eq)]
+#[derive(Clone, Copy)]
 pub struct Limits {
     /// The time for which a connection may neither send a byte of a message nor take one of a pending reply.
     pub idle: Duration,
