@@ -1,4 +1,4 @@
--- The text that `once` writes for an input.
+-- The text that `once` writes for an input, and its faults.
 use Rattle.std.specs.Prelude.{◌≡◌, ◌⊎◌, ⊤, ℕ, true, false, List, Some, Result, Ok, Err, IsOk}
 use Rattle.scim_audit.specs.declared.refusals.Refusal.{Refusal}
 use Rattle.scim_audit.specs.declared.refusals.Refusal.TheVariants.{Store as NoStore}
@@ -13,6 +13,8 @@ use Rattle.scim_exchange.specs.declared.answers.Answer.{Answer}
 use Rattle.scim_exchange.specs.declared.exchanges.Arrival.{Arrival}
 use Rattle.scim_exchange.specs.Replies.{refusal_text, answer_text}
 use Rattle.scim_exchange.specs.Exchanges.{Exchanged}
+use Rattle.scim_command.specs.declared.faults.RunFault.{RunFault}
+use Rattle.scim_command.specs.declared.faults.RunFault.TheVariants.{Policy, Users, InputEnded, InputFailed, Output, NoMemory}
 use Rattle.scim_command.specs.declared.run_once.Setting.{Setting}
 use Rattle.scim_command.specs.Inputs.{OpensWith}
 
@@ -61,3 +63,14 @@ pub record Answers (s : Setting) (input text : List ℕ) : Type 0 where
   pub allows : policy_of s.policy.now ≡ Ok policy
   pub holds : IsStoreOf s.base.now s.users.now store
   pub answer : IsAnswer policy s.base.now (arrival_of s) store input text
+
+-- the faults of `once`: an invalid policy file or users file, an input that ends early or can't be read, a
+-- failed write, or failed allocation
+abbrev pub IsOnceFault : RunFault → Type 0
+IsOnceFault (Policy rule cause) = Unit {0}
+IsOnceFault (Users n) = Unit {0}
+IsOnceFault InputEnded = Unit {0}
+IsOnceFault InputFailed = Unit {0}
+IsOnceFault Output = Unit {0}
+IsOnceFault NoMemory = Unit {0}
+IsOnceFault _ = ⊥

@@ -1,4 +1,4 @@
--- The text that `replay` writes for its files.
+-- The text that `replay` writes for its files, and its faults.
 use Rattle.std.specs.Prelude.{◌≡◌, ℕ, List, Result, Ok}
 use Rattle.scim_policy.specs.Rules.{Rule}
 use Rattle.scim_policy_file.specs.File.{policy_of}
@@ -7,6 +7,8 @@ use Rattle.scim_token.specs.TokenFile.{Entry, entries_in}
 use Rattle.scim_hub.specs.declared.events.HubFault.{HubFault}
 use Rattle.scim_hub.specs.Events.{HubEvent, HubOutput, HubState, none_joined, Runs}
 use Rattle.scim_command.specs.Once.{IsStoreOf}
+use Rattle.scim_command.specs.declared.faults.RunFault.{RunFault}
+use Rattle.scim_command.specs.declared.faults.RunFault.TheVariants.{Policy, Users, Tokens, Events, Output, NoMemory}
 use Rattle.scim_command.specs.declared.replays.Recording.{Recording}
 use Rattle.scim_command.specs.EventFiles.{IsEventFile}
 use Rattle.scim_command.specs.Outputs.{results_text}
@@ -31,3 +33,14 @@ pub record Replays (r : Recording) (text : List ℕ) : Type 0 where
   pub events : List HubEvent
   pub tells : IsEventFile r.events.now events
   pub answers : AreResultsOf policy r.base.now entries (none_joined store) events text
+
+-- the faults of `replay`: an invalid policy, token, users or events file, a failed write, or failed
+-- allocation
+abbrev pub IsReplayFault : RunFault → Type 0
+IsReplayFault (Policy rule cause) = Unit {0}
+IsReplayFault (Users n) = Unit {0}
+IsReplayFault (Tokens n) = Unit {0}
+IsReplayFault (Events n) = Unit {0}
+IsReplayFault Output = Unit {0}
+IsReplayFault NoMemory = Unit {0}
+IsReplayFault _ = ⊥

@@ -1,4 +1,7 @@
 //! The errors of the program's command line and commands.
+ghost use Rattle.std.specs.Prelude.{◌≡◌};
+ghost use Rattle.scim_command.specs.Faults.{IsOfPath, exit_status_of};
+
 use crate::faults::RunFault;
 use std::alloc::Global;
 use std::fmt;
@@ -34,7 +37,9 @@ impl Drop for CommandFault {
 
 impl CommandFault {
     /// Returns the error `CannotRead` for the file at this path, or `NoMemory` if the path can't be copied.
-    pub fn cannot_read(alloc: Global, path: &str) -> CommandFault {
+    pub fn cannot_read(alloc: Global, path: &str) -> CommandFault
+        ensures { IsOfPath path.now result }
+    {
         match String::from_str(alloc, path) {
             Ok(path) => CommandFault::CannotRead(path),
             Err(_) => CommandFault::Run(RunFault::NoMemory),
@@ -42,7 +47,9 @@ impl CommandFault {
     }
 
     /// Returns the exit status: 2 for an error in the command line, and 1 for any other error.
-    pub fn exit_status(&self) -> u8 {
+    pub fn exit_status(&self) -> u8
+        ensures { result ≡ exit_status_of self.now }
+    {
         match self {
             CommandFault::NotText | CommandFault::BadOption => 2,
             CommandFault::CannotRead(_)
@@ -84,6 +91,11 @@ impl fmt::Display for OneLine<'_> {
 }
 
 impl From<RunFault> for CommandFault {
+    ghost use Rattle.std.specs.Prelude.{◌≡◌};
+    ghost use Rattle.scim_command.specs.declared.command_faults.CommandFault.{CommandFault};
+
+    ghost from_gives = { λ e f. f ≡ CommandFault.Run e };
+
     fn from(fault: RunFault) -> CommandFault {
         CommandFault::Run(fault)
     }

@@ -1,4 +1,16 @@
 //! The commands `once` and `check` over the files that their options name.
+ghost use Rattle.std.specs.Prelude.{◌≡◌, ◌≢◌, ℕ, Bool, List, Ok, Err, IfErr, IfSome, OnOk};
+ghost use Rattle.std.specs.Io.KnownBytes.{Appends};
+ghost use Rattle.scim_policy.specs.Rules.{Rule};
+ghost use Rattle.scim_policy_file.specs.File.{policy_of};
+ghost use Rattle.scim_wire.specs.Streams.{AppendsFront};
+ghost use Rattle.scim_command.specs.Check.{IsCheckFault, check_text};
+ghost use Rattle.scim_command.specs.Faults.{IsOverFiles};
+ghost use Rattle.scim_command.specs.Once.{Answers, IsOnceFault};
+ghost use Rattle.scim_command.specs.declared.command_faults.CommandFault.{CommandFault};
+ghost use Rattle.scim_command.specs.declared.faults.RunFault.{RunFault};
+ghost use Rattle.scim_command.specs.declared.run_once.Setting.{Setting};
+
 use crate::checks::check;
 use crate::command_faults::CommandFault;
 use crate::files::{FileKind, OnceTexts, read_file};
@@ -17,7 +29,18 @@ pub fn once_over_files<R: Read, W: Write>(
     matches: &ArgMatches<'_>,
     reader: &mut R,
     writer: &mut W,
-) -> Result<(), CommandFault> {
+) -> Result<(), CommandFault>
+    ensures answered { OnOk result (IfSome (R.remaining reader.old) (λ input.
+        (setting : Setting) × (output : List ℕ) × Answers setting input output
+        × Appends (W.contents writer.old) (W.contents writer.new) output)) }
+    ensures output { result ≡ Err (CommandFault.Run RunFault.Output)
+        → IfSome (R.remaining reader.old) (λ input.
+        (setting : Setting) × (output : List ℕ) × Answers setting input output
+        × AppendsFront (W.contents writer.old) (W.contents writer.new) output) }
+    ensures silent { IfErr result (λ f. f ≢ CommandFault.Run RunFault.Output
+        → writer.new ≡ writer.old) }
+    ensures faults { IfErr result (IsOverFiles IsOnceFault) }
+{
     let options = OnceOptions::of(rt.alloc(), matches)?;
     let texts = OnceTexts::read(rt, &options)?;
     match once(rt.alloc(), &texts.setting(&options), reader, writer) {
@@ -34,7 +57,18 @@ pub fn check_over_files<W: Write>(
     rt: &(impl Files + AllocGlobal),
     matches: &ArgMatches<'_>,
     writer: &mut W,
-) -> Result<(), CommandFault> {
+) -> Result<(), CommandFault>
+    ensures told { OnOk result ((policy : List ℕ) × (rules : List Rule) × (verbose : Bool)
+        × (policy_of policy ≡ Ok rules)
+        × Appends (W.contents writer.old) (W.contents writer.new) (check_text verbose rules)) }
+    ensures output { result ≡ Err (CommandFault.Run RunFault.Output)
+        → (policy : List ℕ) × (rules : List Rule) × (verbose : Bool)
+        × (policy_of policy ≡ Ok rules)
+        × AppendsFront (W.contents writer.old) (W.contents writer.new) (check_text verbose rules) }
+    ensures silent { IfErr result (λ f. f ≢ CommandFault.Run RunFault.Output
+        → writer.new ≡ writer.old) }
+    ensures faults { IfErr result (IsOverFiles IsCheckFault) }
+{
     let options = CheckOptions::of(matches)?;
     let policy = read_file(rt, FileKind::Policy, options.policy)?;
     match check(rt.alloc(), policy.as_str(), options.verbose, writer) {

@@ -1,4 +1,10 @@
 //! Reads the files that a command's options name.
+ghost use Rattle.std.specs.Prelude.{◌≡◌, ℕ, List, Ok, IfOk, IfErr};
+ghost use Rattle.scim_policy_file.specs.File.{policy_of};
+ghost use Rattle.scim_command.specs.Faults.{IsOfFile, IsOfPath, IsOverFiles, of_no_text};
+ghost use Rattle.scim_command.specs.code.Exits.{IsOfFiles};
+ghost use Rattle.scim_command.specs.declared.command_faults.CommandFault.{CommandFault};
+
 use crate::command_faults::CommandFault;
 use crate::faults::RunFault;
 use crate::options::OnceOptions;
@@ -22,7 +28,9 @@ pub enum FileKind {
 }
 
 /// Returns the error for a file of this kind that isn't UTF-8.
-fn not_text(kind: FileKind) -> CommandFault {
+fn not_text(kind: FileKind) -> CommandFault
+    ensures { result ≡ CommandFault.Run (of_no_text kind) }
+{
     CommandFault::Run(match kind {
         FileKind::Policy => RunFault::Policy {
             rule: 0,
@@ -42,7 +50,9 @@ pub fn read_file(
     rt: &(impl Files + AllocGlobal),
     kind: FileKind,
     path: &str,
-) -> Result<String, CommandFault> {
+) -> Result<String, CommandFault>
+    ensures { IfErr result (IsOfFile kind path.now) }
+{
     let Ok(bytes) = fs::read(rt, path) else {
         return Err(CommandFault::cannot_read(rt.alloc(), path));
     };
@@ -53,7 +63,9 @@ pub fn read_file(
 }
 
 /// Checks that a file exists. Fails with `CannotRead` if it doesn't or if the check fails.
-pub fn find_file(rt: &(impl Files + AllocGlobal), path: &str) -> Result<(), CommandFault> {
+pub fn find_file(rt: &(impl Files + AllocGlobal), path: &str) -> Result<(), CommandFault>
+    ensures { IfErr result (IsOfPath path.now) }
+{
     match fs::exists(rt, path) {
         Ok(true) => Ok(()),
         _ => Err(CommandFault::cannot_read(rt.alloc(), path)),
@@ -64,7 +76,9 @@ pub fn find_file(rt: &(impl Files + AllocGlobal), path: &str) -> Result<(), Comm
 ///
 /// Fails with `CannotRead` if the file can't be read, and with `Policy` if it isn't UTF-8 or isn't a valid
 /// policy.
-pub fn policy_at(rt: &(impl Files + AllocGlobal), path: &str) -> Result<Policy, CommandFault> {
+pub fn policy_at(rt: &(impl Files + AllocGlobal), path: &str) -> Result<Policy, CommandFault>
+    ensures { IfOk result (λ policy. (text : List ℕ) × (policy_of text ≡ Ok policy)) }
+{
     let text = read_file(rt, FileKind::Policy, path)?;
     match read_policy(rt.alloc(), text.as_str()) {
         Ok(policy) => Ok(policy),
@@ -87,14 +101,16 @@ impl OnceTexts {
     pub(crate) fn read(
         rt: &(impl Files + AllocGlobal),
         options: &OnceOptions<'_>,
-    ) -> Result<OnceTexts, CommandFault> {
+    ) -> Result<OnceTexts, CommandFault>
+        ensures { IfErr result (IsOverFiles IsOfFiles) }
+    {
         let policy = read_file(rt, FileKind::Policy, options.policy)?;
         match read_file(rt, FileKind::Users, options.users) {
             Ok(users) => Ok(OnceTexts { policy, users }),
-            Err(fault) => Err(match read_policy(rt.alloc(), policy.as_str()) {
-                Ok(_) => fault,
-                Err(earlier) => CommandFault::Run(earlier.into()),
-            }),
+            Err(fault) => match read_policy(rt.alloc(), policy.as_str()) {
+                Ok(_) => Err(fault),
+                Err(earlier) => Err(CommandFault::Run(earlier.into())),
+            },
         }
     }
 

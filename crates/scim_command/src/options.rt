@@ -1,4 +1,8 @@
 //! The options of the commands `once` and `check`, and helpers to read options.
+ghost use Rattle.std.specs.Prelude.{◌≡◌, IfErr};
+ghost use Rattle.scim_command.specs.declared.command_faults.CommandFault.{CommandFault};
+ghost use Rattle.scim_command.specs.code.FileExits.{IsOfOptions};
+
 use crate::command_faults::CommandFault;
 use crate::faults::RunFault;
 use clap::ArgMatches;
@@ -38,7 +42,9 @@ impl<'a> OnceOptions<'a> {
     ///
     /// Fails with `BadOption` if the client's name isn't valid, or if the time or the id doesn't have the
     /// form in which the server prints times and ids.
-    pub fn of(alloc: Global, matches: &ArgMatches<'a>) -> Result<OnceOptions<'a>, CommandFault> {
+    pub fn of(alloc: Global, matches: &ArgMatches<'a>) -> Result<OnceOptions<'a>, CommandFault>
+        ensures { IfErr result IsOfOptions }
+    {
         let client = text_of(matches, "client")?;
         if !is_client_name(client) {
             return Err(CommandFault::BadOption);
@@ -59,7 +65,9 @@ impl<'a> OnceOptions<'a> {
 
 impl<'a> CheckOptions<'a> {
     /// Reads the options of `check`.
-    pub fn of(matches: &ArgMatches<'a>) -> Result<CheckOptions<'a>, CommandFault> {
+    pub fn of(matches: &ArgMatches<'a>) -> Result<CheckOptions<'a>, CommandFault>
+        ensures { IfErr result IsOfOptions }
+    {
         Ok(CheckOptions {
             policy: text_of(matches, "policy")?,
             verbose: matches.get_flag("verbose"),
@@ -68,7 +76,9 @@ impl<'a> CheckOptions<'a> {
 }
 
 /// Returns the text of an option. Fails with `BadOption` if the option isn't given.
-pub(crate) fn text_of<'a>(matches: &ArgMatches<'a>, name: &str) -> Result<&'a str, CommandFault> {
+pub(crate) fn text_of<'a>(matches: &ArgMatches<'a>, name: &str) -> Result<&'a str, CommandFault>
+    ensures { IfErr result (λ f. f ≡ CommandFault.BadOption) }
+{
     match matches.get_str(name) {
         Some(text) => Ok(text),
         None => Err(CommandFault::BadOption),
@@ -76,7 +86,9 @@ pub(crate) fn text_of<'a>(matches: &ArgMatches<'a>, name: &str) -> Result<&'a st
 }
 
 /// Parses a time. Fails with `BadOption` if the text doesn't have the form in which the server prints times.
-fn moment_of(alloc: Global, text: &str) -> Result<Moment, CommandFault> {
+fn moment_of(alloc: Global, text: &str) -> Result<Moment, CommandFault>
+    ensures { IfErr result IsOfOptions }
+{
     match read_printed_moment(alloc, text) {
         Ok(Some(moment)) => Ok(moment),
         Ok(None) => Err(CommandFault::BadOption),

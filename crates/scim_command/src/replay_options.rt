@@ -1,4 +1,7 @@
 //! The options of the command `replay`.
+ghost use Rattle.std.specs.Prelude.{IfErr};
+ghost use Rattle.scim_command.specs.code.FileExits.{IsOfOptions};
+
 use crate::command_faults::CommandFault;
 use crate::options::text_of;
 use clap::ArgMatches;
@@ -20,7 +23,9 @@ pub struct ReplayOptions<'a> {
 
 impl<'a> ReplayOptions<'a> {
     /// Reads the options of `replay`.
-    pub fn of(matches: &ArgMatches<'a>) -> Result<ReplayOptions<'a>, CommandFault> {
+    pub fn of(matches: &ArgMatches<'a>) -> Result<ReplayOptions<'a>, CommandFault>
+        ensures { IfErr result IsOfOptions }
+    {
         Ok(ReplayOptions {
             policy: text_of(matches, "policy")?,
             tokens: text_of(matches, "tokens")?,

@@ -1,4 +1,16 @@
 //! The command `replay` over the files that its options name.
+ghost use Rattle.std.specs.Prelude.{◌≡◌, ◌≢◌, ℕ, List, Ok, Err, IfOk, IfErr, OnOk};
+ghost use Rattle.std.specs.Io.KnownBytes.{Appends};
+ghost use Rattle.scim_token.specs.TokenFile.{Entry, entries_in};
+ghost use Rattle.scim_token.specs.Tokens.{Knows};
+ghost use Rattle.scim_wire.specs.Streams.{AppendsFront};
+ghost use Rattle.scim_command.specs.Faults.{IsOverFiles};
+ghost use Rattle.scim_command.specs.Replays.{Replays, IsReplayFault};
+ghost use Rattle.scim_command.specs.code.ReplayExits.{IsOfRecording};
+ghost use Rattle.scim_command.specs.declared.command_faults.CommandFault.{CommandFault};
+ghost use Rattle.scim_command.specs.declared.faults.RunFault.{RunFault};
+ghost use Rattle.scim_command.specs.declared.replays.Recording.{Recording};
+
 use crate::command_faults::CommandFault;
 use crate::files::{FileKind, read_file};
 use crate::replay_options::ReplayOptions;
@@ -27,7 +39,9 @@ impl Texts {
     fn read(
         rt: &(impl Files + AllocGlobal),
         options: &ReplayOptions<'_>,
-    ) -> Result<Texts, CommandFault> {
+    ) -> Result<Texts, CommandFault>
+        ensures { IfErr result (IsOverFiles IsOfRecording) }
+    {
         let mut texts = Texts {
             policy: read_file(rt, FileKind::Policy, options.policy)?,
             tokens: String::new(rt.alloc()),
@@ -60,7 +74,9 @@ impl Texts {
         base: &str,
         users: &str,
         fault: CommandFault,
-    ) -> CommandFault {
+    ) -> CommandFault
+        ensures { IsOverFiles IsOfRecording fault → IsOverFiles IsOfRecording result }
+    {
         let recording = Recording {
             policy: self.policy.as_str(),
             tokens: self.tokens.as_str(),
@@ -83,7 +99,16 @@ pub fn replay_over_files<W: Write>(
     rt: &(impl Files + AllocGlobal),
     matches: &ArgMatches<'_>,
     writer: &mut W,
-) -> Result<(), CommandFault> {
+) -> Result<(), CommandFault>
+    ensures told { OnOk result ((recording : Recording) × (text : List ℕ) × Replays recording text
+        × Appends (W.contents writer.old) (W.contents writer.new) text) }
+    ensures output { result ≡ Err (CommandFault.Run RunFault.Output)
+        → (recording : Recording) × (text : List ℕ) × Replays recording text
+        × AppendsFront (W.contents writer.old) (W.contents writer.new) text }
+    ensures silent { IfErr result (λ f. f ≢ CommandFault.Run RunFault.Output
+        → writer.new ≡ writer.old) }
+    ensures faults { IfErr result (IsOverFiles IsReplayFault) }
+{
     let options = ReplayOptions::of(matches)?;
     let texts = Texts::read(rt, &options)?;
     let recording = Recording {
@@ -103,7 +128,10 @@ pub fn replay_over_files<W: Write>(
 ///
 /// Fails with `CannotRead` if the file can't be read, and with `Tokens` if it isn't UTF-8 or a line is
 /// invalid.
-pub fn tokens_at(rt: &(impl Files + AllocGlobal), path: &str) -> Result<Tokens, CommandFault> {
+pub fn tokens_at(rt: &(impl Files + AllocGlobal), path: &str) -> Result<Tokens, CommandFault>
+    ensures { IfOk result (λ tokens. (text : List ℕ) × (entries : List Entry)
+        × (entries_in text ≡ Ok entries) × Knows entries tokens) }
+{
     let text = read_file(rt, FileKind::Tokens, path)?;
     match read_tokens(rt.alloc(), text.as_str()) {
         Ok(tokens) => Ok(tokens),

@@ -1,5 +1,5 @@
 //! The command `replay`: answers the events of a file with a hub over a users file in memory.
-ghost use Rattle.std.specs.Prelude.{◌≡◌, ◌≢◌, ℕ, List, Ok, Err, IfOk, IfErr, OnOk, map, string_bytes};
+ghost use Rattle.std.specs.Prelude.{◌≡◌, ◌≢◌, ℕ, List, Ok, Err, IfOk, IfErr, IfSome, OnOk, map, string_bytes};
 ghost use Rattle.std.specs.Io.KnownBytes.{Appends};
 ghost use Rattle.scim_json.specs.Documents.{IsDamagedAt};
 ghost use Rattle.scim_policy_file.specs.File.{policy_of};
@@ -12,8 +12,8 @@ ghost use Rattle.scim_command.specs.declared.faults.RunFault.{RunFault};
 ghost use Rattle.scim_hub.specs.Events.{HubState};
 ghost use Rattle.scim_hub.specs.HubStates.{IsHubState, owned_event_of};
 ghost use Rattle.scim_command.specs.EventFiles.{IsEventFile, IsFaultyAt, file_lines};
-ghost use Rattle.scim_command.specs.Replays.{Replays, AreResultsOf};
-ghost use Rattle.scim_command.specs.code.ReplayExits.{IsHubOver, IsOfFiles, IsOfEvents, IsReplayFault};
+ghost use Rattle.scim_command.specs.Replays.{Replays, AreResultsOf, IsReplayFault};
+ghost use Rattle.scim_command.specs.code.ReplayExits.{IsHubOver, IsOfFiles, IsOfEvents, IsOfRecording};
 ghost use Rattle.scim_hub.specs.HubSetting.{hub_base, hub_policy, hub_tokens};
 
 use crate::borrowed_events::events_of;
@@ -70,6 +70,7 @@ pub fn replay<W: Write>(
     ensures events { (n : ℕ) → result ≡ Err (RunFault.Events n)
         → IsFaultyAt (file_lines recording.now.events.now) n }
     ensures silent { IfErr result (λ f. f ≢ RunFault.Output → writer.new ≡ writer.old) }
+    ensures faults { IfErr result IsReplayFault }
 {
     let text = replayed(alloc, recording)?;
     write_or_fault(text.as_str(), writer)
@@ -77,7 +78,9 @@ pub fn replay<W: Write>(
 
 /// Returns the fault of the first invalid file among the policy, the tokens and the users; `NoMemory` if
 /// memory runs out; `None` if all three are valid.
-pub(crate) fn first_fault(alloc: Global, recording: &Recording<'_>) -> Option<RunFault> {
+pub(crate) fn first_fault(alloc: Global, recording: &Recording<'_>) -> Option<RunFault>
+    ensures { IfSome result IsOfFiles }
+{
     hub_over(alloc, recording).err()
 }
 
@@ -93,7 +96,7 @@ fn replayed(alloc: Global, recording: &Recording<'_>) -> Result<String, RunFault
         × (entries_in recording.now.tokens.now ≡ Err (record { line = n; cause = cause })) }
     ensures events { (n : ℕ) → result ≡ Err (RunFault.Events n)
         → IsFaultyAt (file_lines recording.now.events.now) n }
-    ensures fault { IfErr result IsReplayFault }
+    ensures fault { IfErr result IsOfRecording }
 {
     let mut hub = hub_over(alloc, recording)?;
     let events = owned_events_in(alloc, recording.events)?;

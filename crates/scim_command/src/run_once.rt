@@ -13,7 +13,7 @@ ghost use Rattle.uuid.specs.Parts.{zero_bytes};
 ghost use Rattle.scim_exchange.specs.Replies as replies;
 ghost use Rattle.scim_command.specs.Inputs.{IsUnended};
 ghost use Rattle.scim_command.specs.code.Exits.{IsOfFiles, IsOfInput, text_or_store};
-ghost use Rattle.scim_command.specs.Once.{Answers, AreSound, IsStoreOf, IsAnswer};
+ghost use Rattle.scim_command.specs.Once.{Answers, AreSound, IsStoreOf, IsAnswer, IsOnceFault};
 ghost use Rattle.scim_service.specs.Setting.{service_base, service_policy, service_shelf};
 
 use crate::answers::{refusal_text, reply_text};
@@ -120,6 +120,7 @@ pub fn once<R: Read, W: Write>(
         × Answers setting.now input output
         × AppendsFront (W.contents writer.old) (W.contents writer.new) output) }
     ensures silent { IfErr result (λ f. f ≢ RunFault.Output → writer.new ≡ writer.old) }
+    ensures faults { IfErr result IsOnceFault }
 {
     let store = refusal_text(alloc, Refusal::Store, ReplyForm::whole(false))?;
     let routes = Routes::new(alloc)?;

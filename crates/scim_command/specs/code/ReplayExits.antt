@@ -33,9 +33,9 @@ IsOfEvents NoMemory = Unit {0}
 IsOfEvents _ = ⊥
 
 -- the fault is `Policy`, `Tokens`, `Users`, `Events` or `NoMemory`
-abbrev pub IsReplayFault : RunFault → Type 0
-IsReplayFault (Events n) = Unit {0}
-IsReplayFault fault = IsOfFiles fault
+abbrev pub IsOfRecording : RunFault → Type 0
+IsOfRecording (Events n) = Unit {0}
+IsOfRecording fault = IsOfFiles fault
 
 -- the hub has no connections, and the policy, the resources and the tokens of the recording's files
 pub record IsHubOver {H : Type 0} (Stands : H → Store → Type 0) (r : Recording) (hub : Hub H) : Type 0 where
