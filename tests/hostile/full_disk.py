@@ -1,0 +1,115 @@
+#!/usr/bin/env python3
+"""A full disk and a device that fails: what is answered 500 isn't done, what was acknowledged stays, and the server
+goes on. The full disk is a small tmpfs, which only root may mount; the device fails by strace, call by call."""
+import argparse
+import contextlib
+import os
+import shutil
+import subprocess
+import sys
+import tempfile
+
+from changes import Changes, audited, exported
+from server import Server, request, write_files
+
+MIB = 1_048_576
+FAILURES = ["pwrite64:error=EIO:when=200..260", "fdatasync:error=EIO:when=50..60", "pwrite64:error=ENOSPC:when=90..400",
+            "ftruncate:error=EIO:when=1..2"]
+
+
+def asked(changes, server, count):
+    """How many of so many requests are answered 500; each other one is answered as usual."""
+    client = server.connect(60)
+    refused = sum(changes.ask(client) == 500 for _ in range(count))
+    client.close()
+    return refused
+
+
+def checked(program, database, changes):
+    """RuntimeError unless the database holds what was acknowledged and nothing that was refused."""
+    fault = changes.fault(exported(program, database), audited(program, database, 1))
+    if fault:
+        raise RuntimeError(fault)
+
+
+@contextlib.contextmanager
+def small_disk(path, size):
+    os.mkdir(path)
+    subprocess.run(["mount", "-t", "tmpfs", "-o", f"size={size}", "tmpfs", path], check=True)
+    try:
+        yield
+    finally:
+        subprocess.run(["umount", path], check=True)
+
+
+def full(program, folder):
+    """A disk that gets full while the server writes, and on which room is made again."""
+    write_files(folder)
+    changes = Changes("writer", "full")
+    disk = os.path.join(folder, "disk")
+    with small_disk(disk, 8 * MIB):
+        filler = os.path.join(disk, "filler")
+        with open(filler, "wb") as file:
+            file.write(bytes(7 * MIB))
+        with Server(program, folder, database="disk/store.db") as server:
+            refused = until_full(changes, server)
+            status, _ = server.connect(60).ask(request("GET", "/ServiceProviderConfig"))
+            if status != 200:
+                raise RuntimeError(f"status {status} for a page of discovery while the disk is full")
+            refused += asked(changes, server, 50)
+            os.remove(filler)
+            later = asked(changes, server, 20)
+        Server(program, folder, database="disk/store.db").__enter__().kill()
+        checked(program, os.path.join(disk, "store.db"), changes)
+    print(f"full disk: {changes.count} requests, {refused} answered 500, {later} of 20 after room was made; "
+          "nothing acknowledged is lost")
+
+
+def until_full(changes, server):
+    for _ in range(100):
+        refused = asked(changes, server, 50)
+        if refused:
+            return refused
+    raise RuntimeError("the disk doesn't get full")
+
+
+def failing(program, folder, failure):
+    """A device that fails at some calls, and a start after it."""
+    write_files(folder)
+    changes = Changes("writer", failure)
+    under = ["strace", "-f", "-o", "/dev/null", "-e", f"trace={failure.split(':')[0]}", "-e", f"inject={failure}"]
+    with Server(program, folder, under=under) as server:
+        refused = asked(changes, server, 300)
+    Server(program, folder).__enter__().kill()
+    checked(program, os.path.join(folder, "store.db"), changes)
+    print(f"{failure}: {changes.count} requests, {refused} answered 500; nothing acknowledged is lost")
+
+
+def runs():
+    """The runs that this machine allows."""
+    if os.geteuid() == 0:
+        yield full, ()
+    else:
+        print("full disk: left out, since only root may mount a tmpfs")
+    if shutil.which("strace"):
+        yield from ((failing, (failure,)) for failure in FAILURES)
+    else:
+        print("failing device: left out, since it needs strace")
+
+
+def main():
+    parser = argparse.ArgumentParser(description=__doc__)
+    parser.add_argument("scimd", help="the program")
+    program, bad = os.path.abspath(parser.parse_args().scimd), False
+    for run, words in runs():
+        with tempfile.TemporaryDirectory(prefix="scimd-disk-") as folder:
+            try:
+                run(program, folder, *words)
+            except (OSError, RuntimeError, subprocess.SubprocessError) as fault:
+                print(f"{run.__name__} {' '.join(words)}: BAD: {fault}")
+                bad = True
+    sys.exit(1 if bad else 0)
+
+
+if __name__ == "__main__":
+    main()

@@ -1,0 +1,97 @@
+#!/usr/bin/env python3
+"""Kills a server under load again and again, and looks at what its database holds. Nothing acknowledged is lost; a
+request under way is there with its row of the audit, or neither is; the numbers of the rows have no gap."""
+import argparse
+import os
+import random
+import sys
+import tempfile
+import threading
+import time
+
+from changes import Changes, audited, exported
+from server import Server, write_files
+
+LOAD = (0.02, 0.4)  # seconds between the start and the kill
+
+
+class Load(threading.Thread):
+    """A connection whose client sends one request after another until the server is gone."""
+
+    def __init__(self, server, changes):
+        super().__init__(daemon=True)
+        self.server, self.changes, self.count, self.fault = server, changes, 0, None
+
+    def run(self):
+        try:
+            client = self.server.connect()
+            while True:
+                self.changes.ask(client)
+                self.count += 1
+        except OSError:
+            pass  # the server was killed
+        except RuntimeError as fault:
+            self.fault = fault
+
+
+def loaded(server, all_changes, seconds):
+    """How many requests were answered until the kill."""
+    loads = [Load(server, changes) for changes in all_changes]
+    for load in loads:
+        load.start()
+    time.sleep(seconds)
+    server.kill()
+    for load in loads:
+        load.join()
+        if load.fault:
+            raise load.fault
+    return sum(load.count for load in loads)
+
+
+def killed_at_start(server, seconds):
+    """Starts a server, and kills it before it may listen."""
+    server.launch()
+    time.sleep(seconds)
+    server.kill()
+
+
+def run(program, folder, chosen):
+    writers = [f"writer{number}" for number in range(chosen.connections)]
+    write_files(folder, writers)
+    source, first, answered = random.Random(chosen.seed), 1, 0
+    database = os.path.join(folder, "store.db")
+    all_changes = [Changes(writer, f"{chosen.seed} {writer}") for writer in writers]
+    for number in range(1, chosen.count + 1):
+        server = Server(program, folder)
+        if number % 5 == 0:
+            killed_at_start(server, source.uniform(0, 0.05))
+        server.start()
+        answered += loaded(server, all_changes, source.uniform(*LOAD))
+        users, rows = exported(program, database), audited(program, database, first)
+        first += len(rows)
+        for fault in filter(None, [changes.fault(users, rows) for changes in all_changes]):
+            raise RuntimeError(f"after kill {number}: {fault}")
+        if number % 20 == 0:
+            print(f"{number} kills, {answered} requests answered, {first - 1} rows, {len(users)} users", flush=True)
+    if len(audited(program, database, 1)) != first - 1:
+        raise RuntimeError("rows of the audit are lost")
+    return answered
+
+
+def main():
+    parser = argparse.ArgumentParser(description=__doc__)
+    parser.add_argument("scimd", help="the program")
+    parser.add_argument("count", nargs="?", type=int, default=200, help="how many kills (default 200)")
+    parser.add_argument("--connections", type=int, default=6, metavar="N", help="clients at once (default 6)")
+    parser.add_argument("--seed", type=int, default=1, metavar="N", help="another seed makes other requests")
+    chosen = parser.parse_args()
+    with tempfile.TemporaryDirectory(prefix="scimd-kill-") as folder:
+        try:
+            answered = run(os.path.abspath(chosen.scimd), folder, chosen)
+        except (OSError, RuntimeError) as fault:
+            sys.exit(f"kill: BAD: {fault}")
+    print(f"kill: {chosen.count} kills, {answered} requests answered, none lost")
+
+
+if __name__ == "__main__":
+    main()
