@@ -93,7 +93,8 @@ def somebody(server):
 
 
 def least(server, message, status, times=3):
-    """Processor seconds for a message: the least of a few times, unless it's dear; and whether it was cut off."""
+    """Processor seconds for a message: the least of a few times, or of one if it's dear. One that is too dear isn't
+    waited for: the server is of no use behind that, and the seconds are those until then."""
     costs = []
     for _ in range(times):
         client = server.connect()
@@ -111,5 +112,6 @@ def least(server, message, status, times=3):
 def watched(server, user, work):
     """What a call gives, and the longest GET by id of another client meanwhile."""
     with Probe(server, user) as probe:
+        probe.settled.wait(PATIENCE)
         found = work()
         return found, probe.wait(PATIENCE / 2)

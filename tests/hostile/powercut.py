@@ -170,8 +170,9 @@ def opened(program, folder, files, source, acknowledged, states, rows):
         found = dict(exported(program, database).values())
         count = len(audited(program, database, 1))
     except RuntimeError as fault:
-        if acknowledged == 0:
-            return False  # the database may not be made yet
+        if acknowledged == 0:  # the database may not be made yet, and a start makes it
+            with Server(program, folder, database="image/store.db"):
+                return False
         raise RuntimeError(f"behind {acknowledged} replies: {fault}") from fault
     for done in (acknowledged, acknowledged + 1):
         if done < len(states) and found == states[done] and count == rows[done]:
@@ -184,7 +185,7 @@ def main():
     parser = argparse.ArgumentParser(description=__doc__)
     parser.add_argument("scimd", help="the program")
     parser.add_argument("count", nargs="?", type=int, default=2_000, help="how many images (default 2000)")
-    parser.add_argument("--requests", type=int, default=200, metavar="N", help="requests that are recorded (200)")
+    parser.add_argument("--requests", type=int, default=400, metavar="N", help="requests that are recorded (400)")
     parser.add_argument("--seed", type=int, default=1, metavar="N", help="another seed makes other images")
     chosen = parser.parse_args()
     if not shutil.which("strace"):

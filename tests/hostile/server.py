@@ -205,9 +205,8 @@ class Probe(threading.Thread):
     def __init__(self, server, user):
         super().__init__(daemon=True)
         self.server, self.message = server, request("GET", f"/Users/{user}", "other")
-        self.longest, self.count, self.fault = 0.0, 0, None
-        self.begun = None
-        self.ending = threading.Event()
+        self.longest, self.count, self.begun, self.fault = 0.0, 0, None, None
+        self.settled, self.ending = threading.Event(), threading.Event()  # settled: a few replies have come
 
     def __enter__(self):
         self.client = self.server.connect()
@@ -224,6 +223,8 @@ class Probe(threading.Thread):
                 self.longest = max(self.longest, self.now() - self.begun)
                 self.begun = None
                 self.count += 1
+                if self.count == 3:
+                    self.settled.set()
                 time.sleep(0.005)
         except (OSError, RuntimeError) as fault:
             self.fault = fault

@@ -199,6 +199,7 @@ def fairness(lab):
 def starved(server, user, flood):
     """The longest GET of another client while there is a flood."""
     with Probe(server, user) as probe:
+        probe.settled.wait(PATIENCE)
         flood.start()
         time.sleep(PATIENCE)
         wait = probe.wait(PATIENCE * 2)

@@ -55,7 +55,7 @@ def replaces(size):
 
 
 def removes(size):
-    terms = [" or ".join(f'value eq "n{number * 48 + term}"' for term in range(48)) for number in range(OPERATIONS)]
+    terms = [" or ".join(f'value eq "{term:02}{step % 10}"' for term in range(48)) for step in range(OPERATIONS)]
     return body_of([{"op": "remove", "path": f"members[{text}]"} for text in terms])
 
 
@@ -79,7 +79,7 @@ MESSAGES = [
 
 def plain(size):
     """A PATCH of one step and nearly one MiB."""
-    pad = MOST_BYTES // size - 40
+    pad = MOST_BYTES // size - 14
     return body_of([{"op": "replace", "path": "emails", "value": [{"value": f"e{number}".ljust(pad, "x")}
                                                                   for number in range(size)]}])
 
