@@ -63,10 +63,12 @@ def search(kind, text, client, rest=""):
 def read_reply(file):
     """The status and the body of the next reply; ConnectionError if none comes."""
     line = file.readline()
-    if not line.startswith(b"HTTP/1.1 "):
+    if not line.startswith(b"HTTP/1.1 ") or not line.endswith(b"\r\n"):
         raise ConnectionError(f"no reply: {line!r}")
     length, header = 0, file.readline()
-    while header not in (b"\r\n", b""):
+    while header != b"\r\n":
+        if not header:
+            raise ConnectionError("a head ended early")
         name, _, value = header.partition(b":")
         if name.lower() == b"content-length":
             length = int(value)
