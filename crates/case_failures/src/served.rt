@@ -175,10 +175,11 @@ fn fails_at(
     told: Result<Served, IoFault>,
     count: usize,
 ) -> bool {
+    let few = u32::try_from(calls).unwrap_or(u32::MAX);
     let (reads, writes, stamps) = match failing {
         Failing::Reads => (calls, u32::MAX, u32::MAX),
-        Failing::Writes => (usize::MAX, calls as u32, u32::MAX),
-        Failing::Stamps => (usize::MAX, u32::MAX, calls as u32),
+        Failing::Writes => (usize::MAX, few, u32::MAX),
+        Failing::Stamps => (usize::MAX, u32::MAX, few),
     };
     let mut reader = Drip {
         bytes: CREATING.as_bytes(),
