@@ -47,14 +47,19 @@ impl<S: Shelf> CachedShelf<S> {
         }
     }
 
-    /// Reads all resources of the shelf below into the cache. No two of them may have the same id or share a
-    /// unique name (RFC 7643 sections 2.2 and 3.1).
+    /// Reads all resources of the shelf below into the cache, in place of what the cache held. No two of them
+    /// may have the same id or share a unique name (RFC 7643 sections 2.2 and 3.1). After Ok the cache is
+    /// correct again, even if others had written to the shelf below.
     ///
     /// Fails with `Device` if the shelf below does, or with `NoMemory`. On any error the cache is unchanged:
     /// if it wasn't filled, reads still go to the shelf below, so the caller may continue after `NoMemory`.
     pub fn fill(&mut self, alloc: Global) -> Result<(), Failed<ShelfFault>>
         ensures filled { OnOk result (IsFilled self.new) }
+        ensures anew { OnOk result ((store : Store) → HasKeyed S.stands (lower_of self.old) store
+            → HasKeyed ⟦<CachedShelf<S> as Shelf>⟧.stands self.new store) }
         ensures kept { OnErr result (KeepsCache self.old self.new) }
+        ensures lower { OnlyReads S.stands S.is_honest S.failures
+            (lower_of self.old) (lower_of self.new) result }
         ensures read { OnlyReads (HasKeyed ⟦<CachedShelf<S> as Shelf>⟧.stands)
             ⟦<CachedShelf<S> as Shelf>⟧.is_honest ⟦<CachedShelf<S> as Shelf>⟧.failures
             self.old self.new result }
