@@ -13,9 +13,11 @@ use Rattle.scim_schema.specs.contracts.Kind.{the_type as the_kind}
 use Rattle.scim_cell.specs.Content.{Content}
 use Rattle.scim_cell.specs.Kinds.{is_of, of_kind}
 use Rattle.scim_value.specs.Uniqueness.{AreApart}
+use Rattle.scim_shelf.specs.declared.copies.CacheContents.{CacheContents}
 use Rattle.scim_shelf.specs.declared.copies.Collecting.{Collecting}
 use Rattle.scim_shelf.specs.Stores.{AreKeyed, HasPlace, keep}
 use Rattle.scim_shelf.specs.Collections.{IsCollection}
+use Rattle.scim_shelf.specs.Caches.{Caches, HasCached}
 use Rattle.scim_shelf.specs.code.Copies.{Keeps}
 use Rattle.scim_shelf.proofs.PlaceLemmas.{AreAbove, reversed, below_none, above_all, keep_greater}
 use Rattle.scim_shelf.proofs.StoreLemmas.{All-both, All-keep, apart_back, keyed_above, keyed_apart, keyed_tail}
@@ -58,13 +60,17 @@ all_fit (d ∷ ds) keyed =
 among_head : (cs : List Content) (x : Content) (xs : List Content) → AreAmong cs (x ∷ xs) → (P : Content → Type 0) → All P cs → P x
 among_head cs x xs among P all = All-head P x xs (among P all)
 
+-- a visitor keeps a resource among those that it has
+abbrev KeepsAmong : {V : Type 0} → (List Content → V → Type 0) → V → Content → V → Type 0
+KeepsAmong Has old c new = (cs : List Content) → Has cs old → HasPlace cs c → Has (keep c cs) new
+
 -- resources of a store that are shown are kept among those that were
-shown_kept : (cs xs acc : List Content) (old new : Collecting) → All (λ c. All (Fits c) cs) cs → AreAmong cs xs → AreAmong cs acc
-    → IsCollection acc old.collection → FoldsTo Keeps old xs new → IsCollection (kept xs acc) new.collection
-shown_kept cs [] acc old new fit here there is folds = subst (λ (x : Collecting). IsCollection acc x.collection) folds is
-shown_kept cs (x ∷ xs) acc old new fit here there is folds =
+shown_kept : {V : Type 0} (Has : List Content → V → Type 0) (cs xs acc : List Content) (old new : V) → All (λ c. All (Fits c) cs) cs → AreAmong cs xs → AreAmong cs acc
+    → Has acc old → FoldsTo (KeepsAmong Has) old xs new → Has (kept xs acc) new
+shown_kept Has cs [] acc old new fit here there is folds = subst (λ x. Has acc x) folds is
+shown_kept Has cs (x ∷ xs) acc old new fit here there is folds =
     let own : All (Fits x) acc = there (Fits x) (among_head cs x xs here (λ c. All (Fits c) cs) fit) in
-    shown_kept cs xs (keep x acc) folds.0 new fit (λ P all. All-tail P x xs (here P all))
+    shown_kept Has cs xs (keep x acc) folds.0 new fit (λ P all. All-tail P x xs (here P all))
     (λ P all. All-keep P x acc (among_head cs x xs here P all) (there P all)) (folds.1 acc is (place x acc own)) folds.2
 
 All-kept : (P : Content → Type 0) (xs acc : List Content) → All P xs → All P acc → All P (kept xs acc)
@@ -118,8 +124,19 @@ by_kinds (c ∷ cs) keyed = go c.kind refl (by_kinds cs (keyed_tail c cs keyed))
 pub all_shown : (cs : List Content) (first middle last : Collecting) → AreKeyed cs → IsCollection [] first.collection
     → FoldsTo Keeps first (of_kind User cs) middle → FoldsTo Keeps middle (of_kind Group cs) last → IsCollection cs last.collection
 all_shown cs first middle last keyed is users groups =
+    let Has : List Content → Collecting → Type 0 = λ xs x. IsCollection xs x.collection in
     subst (λ (xs : List Content). IsCollection xs last.collection) (by_kinds cs keyed)
-    (shown_kept cs (of_kind Group cs) (kept (of_kind User cs) []) middle last (all_fit cs keyed) (λ P all. All-filter (is_of Group) P cs all)
+    (shown_kept Has cs (of_kind Group cs) (kept (of_kind User cs) []) middle last (all_fit cs keyed) (λ P all. All-filter (is_of Group) P cs all)
     (λ P all. All-kept P (of_kind User cs) [] (All-filter (is_of User) P cs all) (All-nil P))
-    (shown_kept cs (of_kind User cs) [] first middle (all_fit cs keyed) (λ P all. All-filter (is_of User) P cs all) (λ P all. All-nil P) is users)
+    (shown_kept Has cs (of_kind User cs) [] first middle (all_fit cs keyed) (λ P all. All-filter (is_of User) P cs all) (λ P all. All-nil P) is users)
     groups)
+
+-- all of them are kept in their order
+in_order : (cs : List Content) → AreKeyed cs → kept cs [] ≡ cs
+in_order [] keyed = refl
+in_order (c ∷ cs) keyed = kept_above c cs [] (keyed_above c cs keyed) ∙ ap (λ (xs : List Content). c ∷ xs) (in_order cs (keyed_tail c cs keyed))
+
+-- a visitor that was given all resources of a store has copied all of them
+pub cached_all : (cs : List Content) (first last : CacheContents) → AreKeyed cs → HasCached [] first → FoldsTo Caches first cs last → HasCached cs last
+cached_all cs first last keyed is folds =
+    subst (λ (xs : List Content). HasCached xs last) (in_order cs keyed) (shown_kept HasCached cs cs [] first last (all_fit cs keyed) (λ P all. all) (λ P all. All-nil P) is folds)

@@ -7,3 +7,4 @@ pub use Rattle.scim_shelf.proofs.PlaceLemmas.{by_order, AreAbove, reversed}
 pub use Rattle.scim_shelf.proofs.NameLemmas.{by_bool, is_same_name-Decides, is_same_name-flips, found_unnamed, found_by_id, found_at}
 pub use Rattle.scim_shelf.proofs.ValueLemmas.{value_more, or_cond, or_false}
 pub use Rattle.scim_shelf.proofs.CountLemmas.{device_raises, counts_grow}
+pub use Rattle.scim_shelf.proofs.CollectLemmas.{cached_all}

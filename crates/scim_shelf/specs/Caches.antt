@@ -2,9 +2,10 @@
 use Rattle.std.specs.Prelude.{◌≡◌, List, Option, IfSome, IsSome}
 use Rattle.scim_cell.specs.Content.{Content}
 use Rattle.scim_shelf.specs.declared.collections.Collection.{Collection}
-use Rattle.scim_shelf.specs.Stores.{Store, AreKeyed}
+use Rattle.scim_shelf.specs.Stores.{Store, AreKeyed, HasPlace, keep}
 use Rattle.scim_shelf.specs.Collections.{IsCollection}
 use Rattle.scim_shelf.specs.declared.caches.CachedShelf.{CachedShelf}
+use Rattle.scim_shelf.specs.declared.copies.CacheContents.{CacheContents}
 
 -- The cache, if it is filled, holds the resources `cs`.
 abbrev pub AreThose : List Content → Option Collection → Type 0
@@ -29,3 +30,15 @@ with_lower shelf lower = record shelf { lower = lower }
 -- The two shelves have the same cache.
 abbrev pub KeepsCache : {S : Type 0} → CachedShelf S → CachedShelf S → Type 0
 KeepsCache old new = new.resources ≡ old.resources
+
+-- The copies, unless memory ran out, are those of the resources `cs`.
+abbrev pub HasCached : List Content → CacheContents → Type 0
+HasCached cs contents = AreThose cs contents.resources
+
+-- The visitor has its copies: memory didn't run out.
+abbrev pub IsWhole : CacheContents → Type 0
+IsWhole contents = IsSome contents.resources
+
+-- The visitor has copied the resource, unless memory ran out.
+abbrev pub Caches : CacheContents → Content → CacheContents → Type 0
+Caches old c new = (cs : List Content) → HasCached cs old → HasPlace cs c → HasCached (keep c cs) new

@@ -4,11 +4,11 @@ ghost use Rattle.std.specs.Borrow.{Lends, sem};
 ghost use Rattle.scim_shelf.specs.contracts.caches.CachedShelf.{the_row};
 ghost use Rattle.scim_shelf.specs.Stores.{Store, CanKeep, changed};
 ghost use Rattle.scim_shelf.specs.Shelves.{OnlyReads};
-ghost use Rattle.scim_shelf.specs.Caches.{AreThose, HasKeyed, IsFilled, KeepsCache, lower_of, with_lower};
+ghost use Rattle.scim_shelf.specs.Caches.{AreThose, HasCached, HasKeyed, IsFilled, IsWhole, KeepsCache, lower_of, with_lower};
 
 use crate::changes::Change;
 use crate::collections::Collection;
-use crate::copies::collection_of;
+use crate::copies::{CacheContents, collection_of};
 use crate::faults::ShelfFault;
 use crate::shelf::{Shelf, Visitor};
 use scim_audit::AuditRow;
@@ -43,6 +43,21 @@ impl<S: Shelf> CachedShelf<S> {
     {
         CachedShelf {
             resources: None,
+            lower,
+        }
+    }
+
+    /// Returns a shelf over the shelf `lower`, with a cache of the resources that `contents` has copied. These
+    /// must be all resources of `lower`. If `contents` has no copies, the cache isn't filled.
+    pub fn with_contents(lower: S, contents: CacheContents) -> CachedShelf<S>
+        ensures lower { lower_of result ≡ lower }
+        ensures filled { IsFilled result ↔ IsWhole contents }
+        ensures stands { (store : Store) → S.stands lower store
+            → (S.is_honest lower → HasCached store.resources contents)
+            → ⟦<CachedShelf<S> as Shelf>⟧.stands result store }
+    {
+        CachedShelf {
+            resources: contents.resources,
             lower,
         }
     }

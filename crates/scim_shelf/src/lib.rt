@@ -16,7 +16,7 @@ mod shelf;
 
 pub use caches::CachedShelf;
 pub use changes::Change;
-pub use copies::all_of;
+pub use copies::{CacheContents, all_of};
 pub use faults::ShelfFault;
 pub use groups::member_values;
 pub use memory::MemoryShelf;
