@@ -24,11 +24,12 @@ use Rattle.scim_change.proofs.Facts.{values_stay, within}
 use Rattle.scim_patch_steps.specs.declared.steps.StepFault.{StepFault}
 use Rattle.scim_patch_steps.specs.declared.steps.StepFault.TheVariants as fault
 use Rattle.scim_patch_steps.specs.declared.patches.Step.{Step as KeptStep}
-use Rattle.scim_patch_steps.specs.Patch.{Step, Pathless, Of, Patch, IsStep, IsPatch, units_in, touched, stepped, all_stepped, is_unseen_writing, changes, if_stepped, applied}
+use Rattle.scim_patch_steps.specs.Patch.{Step, Pathless, Of, Patch, IsStep, IsPatch, units_in, touched, stepped, all_stepped, is_unseen_writing, changes, if_stepped, is_within_limit, applied}
 use Rattle.scim_patch_steps.specs.Kept.{step_of}
 use Rattle.scim_patch_steps.specs.code.Touched.{is_about, is_other, rows_about}
 use Rattle.scim_patch_steps.proofs.StandLemmas.{same_content}
 use Rattle.scim_patch_steps.proofs.StepLemmas.{found, stands, left_sound, left_resource}
+use Rattle.scim_patch_steps.proofs.WorkLemmas.{first_is_about, later_is_about}
 
 -- ---- one step among them
 
@@ -89,13 +90,9 @@ others_same : (us all : List AttributeUnit) (before rs : List Row) → ((v : Att
     → list_any (is_other (rows_about all before) rs) us ≡ list_any (is_other before rs) us
 others_same [] all before rs h = refl
 others_same (u ∷ us) all before rs h =
-    let own : is_about (u ∷ us) u ≡ true = rw ((is_same_unit-Decides u u).1 refl) refl in
-    let first = ap (λ vs. not (are_same_values vs (values u rs))) (kept_about all before u (h u own)) in
-    let rest = others_same us all before rs (λ v t. h v (later v t)) in
+    let first = ap (λ vs. not (are_same_values vs (values u rs))) (kept_about all before u (h u (first_is_about u us))) in
+    let rest = others_same us all before rs (λ v t. h v (later_is_about u v us t)) in
     λ i. first i || rest i
-  where
-    later : (v : AttributeUnit) → is_about us v ≡ true → is_about (u ∷ us) v ≡ true
-    later v t = elim (cases_Bool (is_same_unit v u)) [ inl s ↦ rw s refl | inr n ↦ rw (n, t) refl ]
 
 -- so they tell as much as all rows
 pub changes_same : (p : Patch) (before rs : List Row) → changes p (rows_about (touched p) before) rs ≡ changes p before rs
@@ -128,17 +125,27 @@ as_it_was p c d own other of_kind may kinds ids h n =
 
 -- ---- the outcome
 
-module _ (p : Patch) (moment : ℕ) (c : Content) (of_kind : p.kind ≡ c.kind) where
+module _ (p : Patch) (moment : ℕ) (c : Content) where
+  -- a patch whose work is over the limit is refused
+  pub over_limit : is_within_limit p (rows c) ≡ false → applied p moment c ≡ Err fault.Value
+  unfolding applied
+  over_limit over = ap (λ b. if_stepped p moment c (if b then all_stepped p.kind p.steps (Ok (rows c)) else Err fault.Value)) over
+
+  -- the steps of another are applied
+  pub within_limit : is_within_limit p (rows c) ≡ true → applied p moment c ≡ if_stepped p moment c (all_stepped p.kind p.steps (Ok (rows c)))
+  unfolding applied
+  within_limit few = ap (λ b. if_stepped p moment c (if b then all_stepped p.kind p.steps (Ok (rows c)) else Err fault.Value)) few
+
+module _ (p : Patch) (moment : ℕ) (c : Content) (of_kind : p.kind ≡ c.kind) (few : is_within_limit p (rows c) ≡ true) where
   -- a fault of the steps is the outcome
   pub refused : (f : Failed StepFault) → IfBecause (λ e. Err e ≡ all_stepped c.kind p.steps (Ok (rows c))) f → IfBecause (λ e. Err e ≡ applied p moment c) f
-  unfolding applied
   refused NoMemory h = tt
-  refused (Because e) h = ap (if_stepped p moment c) (h ∙ ap (λ k. all_stepped k p.steps (Ok (rows c))) (sym of_kind))
+  refused (Because e) h = ap (if_stepped p moment c) (h ∙ ap (λ k. all_stepped k p.steps (Ok (rows c))) (sym of_kind)) ∙ sym (within_limit p moment c few)
 
   -- and else what is finished
   pub finished_so : (rs : List Row) (b : Bool) → Ok rs ≡ all_stepped c.kind p.steps (Ok (rows c)) → changes p (rows c) rs ≡ b
       → applied p moment c ≡ Ok ((if b then content c.kind c.id (modified_at moment rs) else c), b)
-  unfolding applied
   finished_so rs b h e =
-      ap (if_stepped p moment c) (ap (λ k. all_stepped k p.steps (Ok (rows c))) of_kind ∙ sym h)
+      within_limit p moment c few
+      ∙ ap (if_stepped p moment c) (ap (λ k. all_stepped k p.steps (Ok (rows c))) of_kind ∙ sym h)
       ∙ (λ i. Ok ((if e i then content c.kind c.id (modified_at moment rs) else c), e i))

@@ -21,11 +21,12 @@ use Rattle.scim_patch_steps.specs.declared.steps.StepFault.{StepFault}
 use Rattle.scim_patch_steps.specs.declared.steps.StepFault.TheVariants as fault
 use Rattle.scim_patch_steps.specs.Changes.{StepChange}
 use Rattle.scim_patch_steps.specs.Steps.{after}
-use Rattle.scim_patch_steps.specs.Patch.{Step, Pathless, Of, Patch, IsStep, IsPatch, units_in, touched, with_outcome, all_stepped, is_unseen_writing, changes, applied}
+use Rattle.scim_patch_steps.specs.Patch.{Step, Pathless, Of, Patch, IsStep, IsPatch, units_in, touched, with_outcome, all_stepped, is_unseen_writing, changes, is_within_limit, applied}
 use Rattle.scim_patch_steps.specs.Laws.{AreAlike, PatchingRestsOnItsUnits}
 use Rattle.scim_patch_steps.specs.code.Touched.{is_about, is_other}
 use Rattle.scim_patch_steps.proofs.StepLemmas.{found, stands, left_sound, left_resource}
-use Rattle.scim_patch_steps.proofs.ApplyLemmas.{finished_so, refused, untouched_stay}
+use Rattle.scim_patch_steps.proofs.WorkLemmas.{AreSame, first_is_about, later_is_about, limit_same}
+use Rattle.scim_patch_steps.proofs.ApplyLemmas.{finished_so, over_limit, refused, untouched_stay}
 
 -- ---- units that are among some
 
@@ -63,10 +64,6 @@ same_any p q (u ∷ us) h =
     λ i. first i || rest i
 
 -- ---- the steps, one after another
-
--- rows have the same values of these units
-abbrev AreSame : List AttributeUnit → List Row → List Row → Type 0
-AreSame us xs ys = (v : AttributeUnit) → is_about us v ≡ true → values v xs ≡ values v ys
 
 -- what steps leave is alike: the same fault, or sound rows with the same values of these units
 abbrev AreLeftAlike : List AttributeUnit → Kind → Kind → Result (List Row) StepFault → Result (List Row) StepFault → Type 0
@@ -131,11 +128,11 @@ steps_alike us a b one other kinds (Of u change ∷ steps) may inside same =
   where
     -- the unit of the step is one of those that the steps are about
     own : is_about (u ∷ flat_map units_in steps) u ≡ true
-    own = rw ((is_same_unit-Decides u u).1 refl) refl
+    own = first_is_about u (flat_map units_in steps)
 
     -- and so are those of the steps behind it
     later : (v : AttributeUnit) → is_about (flat_map units_in steps) v ≡ true → is_about us v ≡ true
-    later v t = inside v (elim (cases_Bool (is_same_unit v u)) [ inl s ↦ rw s refl | inr n ↦ rw (n, t) refl ])
+    later v t = inside v (later_is_about u v (flat_map units_in steps) t)
 
     -- the step makes the same of the same values
     makes_same : after b.kind u change (values u (rows b)) ≡ after a.kind u change (values u (rows a))
@@ -231,19 +228,26 @@ module _ (p : Patch) (moment : ℕ) where
     finished_alike xs ys false e f agreed first second = (refl, agree, as_it_was a, as_it_was b)
 
     -- so are the outcomes where what the steps leave is
-    alike : (x y : Result (List Row) StepFault) → all_stepped a.kind p.steps (Ok (rows a)) ≡ x → all_stepped b.kind p.steps (Ok (rows b)) ≡ y
+    alike : is_within_limit p (rows a) ≡ true → is_within_limit p (rows b) ≡ true
+        → (x y : Result (List Row) StepFault) → all_stepped a.kind p.steps (Ok (rows a)) ≡ x → all_stepped b.kind p.steps (Ok (rows b)) ≡ y
         → AreLeftAlike (touched p) a.kind b.kind x y → AreAlike (touched p) moment a b (applied p moment a) (applied p moment b)
-    alike (Err e) (Err f) first second agreed =
-        rw (sym (refused p moment a (sym k) (Because e) (sym first)), sym (refused p moment b (sym l) (Because f) (sym second))) agreed
-    alike (Ok xs) (Ok ys) first second agreed =
+    alike few little (Err e) (Err f) first second agreed =
+        rw (sym (refused p moment a (sym k) few (Because e) (sym first)), sym (refused p moment b (sym l) little (Because f) (sym second))) agreed
+    alike few little (Ok xs) (Ok ys) first second agreed =
         let changed = same_changes p (rows a) (rows b) xs ys same agreed.0 in
-        rw (finished_so p moment a (sym k) xs (changes p (rows b) ys) (sym first) changed, finished_so p moment b (sym l) ys (changes p (rows b) ys) (sym second) refl)
+        rw (finished_so p moment a (sym k) few xs (changes p (rows b) ys) (sym first) changed, finished_so p moment b (sym l) little ys (changes p (rows b) ys) (sym second) refl)
         (finished_alike xs ys (changes p (rows b) ys) first second agreed.0 agreed.1 agreed.2)
-    alike (Ok xs) (Err f) first second agreed = absurd agreed
-    alike (Err e) (Ok ys) first second agreed = absurd agreed
+    alike few little (Ok xs) (Err f) first second agreed = absurd agreed
+    alike few little (Err e) (Ok ys) first second agreed = absurd agreed
 
 -- the law itself
 pub patching_rests_on_its_units : PatchingRestsOnItsUnits
 patching_rests_on_its_units p moment a b is one other k l agree =
-    alike p moment a b is one other k l agree _ _ refl refl
-    (steps_alike (touched p) a b one other (l ∙ sym k) p.steps (may p moment a b is one other k l agree) (λ v t. t) (same p moment a b is one other k l agree))
+    let agreed = same p moment a b is one other k l agree in
+    let limits = limit_same p (rows a) (rows b) agreed in
+    elim (cases_Bool (is_within_limit p (rows a))) [
+      | inl few ↦
+          alike p moment a b is one other k l agree few (sym limits ∙ few) _ _ refl refl
+          (steps_alike (touched p) a b one other (l ∙ sym k) p.steps (may p moment a b is one other k l agree) (λ v t. t) agreed)
+      | inr over ↦ rw (over_limit p moment a over, over_limit p moment b (sym limits ∙ over)) refl
+    ]

@@ -7,6 +7,7 @@ pub mod FieldLemmas
 pub mod SoundLemmas
 pub mod SingleLemmas
 pub mod StepLemmas
+pub mod WorkLemmas
 pub mod ApplyLemmas
 pub mod LengthLemmas
 pub mod LawLemmas

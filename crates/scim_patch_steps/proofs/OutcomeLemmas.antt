@@ -1,6 +1,7 @@
 -- What comes of a patch is a resource.
-use Rattle.std.proofs.Common.{◌≡◌, ◌≤◌, ℕ, Bool, true, false, refl, sym, ◌∙◌, ap, subst, List, [], ◌∷◌}
+use Rattle.std.proofs.Common.{◌≡◌, ◌≤◌, ℕ, Bool, true, false, refl, sym, ◌∙◌, ap, subst, inl, inr, List, [], ◌∷◌}
 use Rattle.std.specs.Prelude.{All, Result, Ok, Err, if◌then◌else◌}
+use Rattle.std.proofs.lemmas.Bool.{cases_Bool}
 use Rattle.std.proofs.lemmas.List.Elements.{All-head, All-tail}
 use Rattle.scim_text.specs.Moments.{last_moment}
 use Rattle.scim_schema.specs.declared.Kind.{Kind}
@@ -11,7 +12,8 @@ use Rattle.scim_change.specs.Replace.{modified_at}
 use Rattle.scim_change.proofs.Facts.{IsSound}
 use Rattle.scim_patch_steps.specs.declared.steps.StepFault.{StepFault}
 use Rattle.scim_patch_steps.specs.declared.steps.StepFault.TheVariants as fault
-use Rattle.scim_patch_steps.specs.Patch.{Step, Pathless, Of, Patch, IsStep, IsPatch, stepped, all_stepped, changes, finished, if_stepped, applied}
+use Rattle.scim_patch_steps.specs.Patch.{Step, Pathless, Of, Patch, IsStep, IsPatch, stepped, all_stepped, changes, finished, if_stepped, is_within_limit, applied}
+use Rattle.scim_patch_steps.proofs.ApplyLemmas.{over_limit, within_limit}
 use Rattle.scim_patch_steps.proofs.StandLemmas.{stamped_base, stamped_stands}
 use Rattle.scim_patch_steps.proofs.StepLemmas.{left_base, left_resource, left_sound}
 
@@ -46,8 +48,10 @@ made_of c (Err fault) = c
 -- so what a patch makes of a resource is one
 pub applied_sound : (p : Patch) → IsPatch p → (moment : ℕ) → moment ≤ last_moment → (base : List ℕ) (c : Content) → c.kind ≡ p.kind → IsSound base c
     → (x : Content) (changed : Bool) → applied p moment c ≡ Ok (x, changed) → IsSound base x
-unfolding applied
-applied_sound p is moment there base c kinds sound x changed e = by_steps (all_stepped p.kind p.steps (Ok (rows c))) refl e
+applied_sound p is moment there base c kinds sound x changed e = elim (cases_Bool (is_within_limit p (rows c))) [
+  | inl few ↦ by_steps (all_stepped p.kind p.steps (Ok (rows c))) refl (sym (within_limit p moment c few) ∙ e)
+  | inr over ↦ absurd (let refused = sym (over_limit p moment c over) ∙ e in cc)
+]
   where
     by_changes : (b : Bool) (rs : List Row) → IsSound base (content c.kind c.id (modified_at moment rs)) → IsSound base (if b then content c.kind c.id (modified_at moment rs) else c)
     by_changes true rs is = is

@@ -5,3 +5,4 @@ pub mod code
 pub mod Changes
 pub mod Table
 pub mod Steps
+pub mod Work

@@ -1,6 +1,6 @@
 -- The outcome of applying a patch to a resource (RFC 7644 section 3.5.2).
-use Rattle.std.specs.Prelude.{◌≡◌, ◌<◌, ℕ, Bool, true, false, not, ◌&&◌, ◌||◌, List, [], ◌∷◌, length, Contains, All, AllPairs, Result, Ok, Err, if◌then◌else◌}
-use Rattle.std.specs.List.{list_any, flat_map}
+use Rattle.std.specs.Prelude.{◌≡◌, ◌<◌, ℕ, ◌+◌, ◌*◌, Bool, true, false, not, ◌&&◌, ◌||◌, List, [], ◌∷◌, length, nat_le, Contains, All, AllPairs, Result, Ok, Err, if◌then◌else◌}
+use Rattle.std.specs.List.{list_any, flat_map, sum_by}
 use Rattle.scim_schema.specs.declared.Kind.{Kind}
 use Rattle.scim_schema.specs.declared.Unit.{Unit as AttributeUnit}
 use Rattle.scim_schema.specs.Characteristics.{is_multi_valued}
@@ -15,6 +15,8 @@ use Rattle.scim_patch_steps.specs.declared.steps.StepFault.{StepFault}
 use Rattle.scim_patch_steps.specs.declared.steps.StepFault.TheVariants as fault
 use Rattle.scim_patch_steps.specs.Changes.{StepChange, Keep, Append, Replace, Clear, AddToMatches, ReplaceMatches, AddAtMatches, SetAtMatches, SetEverywhere}
 use Rattle.scim_patch_steps.specs.Steps.{is_required, after}
+use Rattle.scim_patch_steps.specs.Work.{size_of, looks, given, set_blocks}
+use Rattle.scim_patch_steps.specs.declared.work.TheConstants.{MOST_WORK, STEP}
 use Rattle.scim_change.specs.Agreement.{are_same_values}
 use Rattle.scim_change.specs.Replace.{modified_at}
 
@@ -77,6 +79,37 @@ units_in (Of u change) = u ∷ []
 abbrev pub touched : Patch → List AttributeUnit
 touched p = flat_map units_in p.steps
 
+-- ---- the work of the steps
+
+-- the size of the values that a step may add to its unit, without the fields that it sets
+abbrev pub given_in : Step → ℕ
+given_in Pathless = 0
+given_in (Of u change) = given change
+
+-- the number of blocks in the texts that a step sets in values of its unit
+abbrev pub set_in : Step → ℕ
+set_in Pathless = 0
+set_in (Of u change) = set_blocks change
+
+-- the size that the values of a unit may have during a patch that gives values of this size and sets texts of
+-- so many blocks: that of the values before and of those that are given, each with all that is set
+abbrev pub size_during : ℕ → ℕ → List Row → ℕ
+size_during size set vs = size_of vs + size + (length vs + size) * set
+
+-- the work of a step in such a patch of rows: its looks at the values of its unit, and the work of passing over
+-- the rows of the resource
+abbrev pub step_work : ℕ → ℕ → List Row → Step → ℕ
+step_work size set rs Pathless = 0
+step_work size set rs (Of u change) = looks change * size_during size set (values u rs) + STEP
+
+-- the work of a patch on rows: that of all its steps
+abbrev pub work : Patch → List Row → ℕ
+work p rs = sum_by (step_work (sum_by given_in p.steps) (sum_by set_in p.steps) rs) p.steps
+
+-- whether the work of a patch on rows is within the limit
+abbrev pub is_within_limit : Patch → List Row → Bool
+is_within_limit p rs = nat_le (work p rs) MOST_WORK
+
 -- ---- the steps, one after another
 
 -- the rows with the values of the unit replaced by the outcome of a step, or the fault of the step
@@ -94,6 +127,11 @@ abbrev pub all_stepped : Kind → List Step → Result (List Row) StepFault → 
 all_stepped kind [] found = found
 all_stepped kind (s ∷ ss) (Err e) = Err e
 all_stepped kind (s ∷ ss) (Ok rs) = all_stepped kind ss (stepped kind s rs)
+
+-- the rows after all steps of the patch, or the fault of the first refused step; the fault `Value` if the work
+-- of the patch is over the limit
+abbrev pub patched : Patch → List Row → Result (List Row) StepFault
+patched p rs = if is_within_limit p rs then all_stepped p.kind p.steps (Ok rs) else Err fault.Value
 
 -- ---- whether the patch changes the resource
 
@@ -124,6 +162,6 @@ if_stepped p moment c (Ok rs) = Ok (finished p moment c rs, changes p (rows c) r
 if_stepped p moment c (Err e) = Err e
 
 -- the resource after all steps of the patch and whether the patch changed it, or the fault of the first
--- refused step
+-- refused step; the fault `Value` if the work of the patch is over the limit
 unfoldable pub applied : Patch → ℕ → Content → Result (Content × Bool) StepFault
-applied p moment c = if_stepped p moment c (all_stepped p.kind p.steps (Ok (rows c)))
+applied p moment c = if_stepped p moment c (patched p (rows c))

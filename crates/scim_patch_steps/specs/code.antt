@@ -5,3 +5,4 @@ pub mod Inside
 pub mod Lengths
 pub mod Outcomes
 pub mod Touched
+pub mod Capped

@@ -15,6 +15,7 @@ use crate::changes::StepChange;
 use crate::patches::{Patch, Step};
 use crate::steps::{StepFault, values_after};
 use crate::touched_units::{before_of, is_changed};
+use crate::work::is_within_limit;
 use scim_cell::{Row, compare_units};
 use scim_change::{Changed, modified_at};
 use scim_schema::{Kind, Unit};
@@ -128,9 +129,10 @@ fn all_stepped(
 /// If the values of the resource stay equal and no step writes to a writeOnly unit, the resource is returned
 /// unchanged, including `meta.lastModified`; otherwise `meta.lastModified` becomes `moment`.
 ///
-/// The patch must be for the resource's kind. Fails with the fault of the first step that is refused:
-/// `NoTarget` for a remove without a path or a path without a target, `Mutability` for a change that no
-/// client may make, or `Value` for invalid values after the step; see [`values_after`]. On an error the
+/// The patch must be for the resource's kind. Fails with `Value`, before any step is applied, if the work of
+/// the patch is over [`MOST_WORK`](crate::MOST_WORK). Otherwise fails with the fault of the first step that is
+/// refused: `NoTarget` for a remove without a path or a path without a target, `Mutability` for a change that
+/// no client may make, or `Value` for invalid values after the step; see [`values_after`]. On an error the
 /// resource is dropped.
 ///
 /// Values are moved. The values of the units that the patch names are also copied, unless the patch is a
@@ -147,6 +149,9 @@ pub fn apply(
     ensures base { (base : List ℕ) → HasBase base resource
         → IfOk result (λ c. HasBase base c.resource) }
 {
+    if !is_within_limit(patch, resource.part()) {
+        return Err(Failed::Because(StepFault::Value));
+    }
     let before = before_of(alloc, patch, resource.part())?;
     let resource = all_stepped(alloc, resource, patch.steps())?;
     if !is_changed(&before, patch, resource.part()) {

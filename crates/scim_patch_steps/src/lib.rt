@@ -10,9 +10,11 @@ mod primary_values;
 mod step_effects;
 mod steps;
 mod touched_units;
+mod work;
 
 pub use applying::apply;
 pub use changes::StepChange;
 pub use laws::patching_rests_on_its_units;
 pub use patches::{Patch, Step};
 pub use steps::StepFault;
+pub use work::MOST_WORK;
