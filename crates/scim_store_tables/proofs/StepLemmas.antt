@@ -109,6 +109,12 @@ pub on_err : {T E : Type 0} (r : Result T E) (P : E → Type 0) (Q : Type 0) →
 on_err (Ok x) P Q f h = tt
 on_err (Err e) P Q f h = f e h
 
+-- what holds in any case holds after a success
+pub any_ok : {T E : Type 0} (r : Result T E) {X : Type 0} → X → OnOk r X
+any_ok (Ok x) h = h
+any_ok (Err e) h = tt
+
+-- what holds in any case holds after an error
 pub any_err : {T E : Type 0} (r : Result T E) {X : Type 0} → X → OnErr r X
 any_err (Ok x) h = tt
 any_err (Err e) h = h

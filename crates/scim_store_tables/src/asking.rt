@@ -1,13 +1,12 @@
 //! The queries on the tables. They change nothing, but a query that fails inside a transaction may roll the
-//! transaction back.
+//! transaction back. A crash leaves only a state that a crash before the query could also leave.
 
-ghost use Rattle.std.specs.Prelude.{◌≡◌, ◌≤◌, [], ◌∷◌, false, map, filter, string_bytes, option_map, IfOk, OnErr};
-ghost use Rattle.sqlite.specs.State.{HasCleanDisk};
-ghost use Rattle.sqlite.specs.View.{doubt};
+ghost use Rattle.std.specs.Prelude.{◌≡◌, [], ◌∷◌, false, map, filter, string_bytes, option_map, IfOk, OnOk, OnErr};
+ghost use Rattle.sqlite.specs.State.{HasCleanDisk, IsUnchanged};
 ghost use Rattle.sqlite.specs.Held.{state};
 ghost use Rattle.sqlite.specs.Values.{bound};
 ghost use Rattle.scim_store_tables.specs.Lists.{Lists, has_text, has_texts};
-ghost use Rattle.scim_store_tables.specs.Reading.{Rests, HasTables, Holds, Tells, Finds, IsTextOfFirst, shown, group_alone, is_resource, is_between};
+ghost use Rattle.scim_store_tables.specs.Reading.{Rests, Spares, HasTables, Holds, Tells, Finds, IsTextOfFirst, shown, group_alone, is_resource, is_between};
 ghost use Rattle.scim_store_tables.specs.Asks.{IsAsked};
 ghost use Rattle.scim_store_tables.specs.code.Told.{OnlyAsks, AreRows, AreKeys};
 
@@ -53,8 +52,9 @@ pub fn find_resource<S: Alter>(
     kind: u32,
 ) -> Result<Option<String>, Error>
     ensures mode { conn.old.in_transaction ≡ false → conn.new.in_transaction ≡ false }
-    ensures clean { doubt (state S.Store conn.old).is_clean
-        ≤ doubt (state S.Store conn.new).is_clean }
+    ensures spares { Spares (state S.Store conn.old) (state S.Store conn.new) }
+    ensures unchanged { HasCleanDisk (state S.Store conn.new) → HasTables (state S.Store conn.old)
+        → OnOk result (IsUnchanged (state S.Store conn.old) (state S.Store conn.new)) }
     ensures found { HasCleanDisk (state S.Store conn.new)
         → IfOk result (λ found. (lists : Lists) → Holds (state S.Store conn.old) lists
         → Finds 2 (filter (is_resource id.now kind) lists.resources) (state S.Store conn.old)
@@ -80,8 +80,9 @@ pub fn find_owner<S: Alter>(
     folded: &str,
 ) -> Result<Option<String>, Error>
     ensures mode { conn.old.in_transaction ≡ false → conn.new.in_transaction ≡ false }
-    ensures clean { doubt (state S.Store conn.old).is_clean
-        ≤ doubt (state S.Store conn.new).is_clean }
+    ensures spares { Spares (state S.Store conn.old) (state S.Store conn.new) }
+    ensures unchanged { HasCleanDisk (state S.Store conn.new) → HasTables (state S.Store conn.old)
+        → OnOk result (IsUnchanged (state S.Store conn.old) (state S.Store conn.new)) }
     ensures found { HasCleanDisk (state S.Store conn.new)
         → IfOk result (λ found. (lists : Lists) → Holds (state S.Store conn.old) lists
         → Finds 2 (filter (has_texts attribute.now folded.now) lists.taken) (state S.Store conn.old)
@@ -120,8 +121,9 @@ pub(crate) fn read_keys<S: Alter>(conn: &mut Connection<S>, table: Table) -> Res
 /// Fails as [`ask`] does.
 pub fn read_groups<S: Alter>(conn: &mut Connection<S>, value: &str) -> Result<Vec<Row>, Error>
     ensures mode { conn.old.in_transaction ≡ false → conn.new.in_transaction ≡ false }
-    ensures clean { doubt (state S.Store conn.old).is_clean
-        ≤ doubt (state S.Store conn.new).is_clean }
+    ensures spares { Spares (state S.Store conn.old) (state S.Store conn.new) }
+    ensures unchanged { HasCleanDisk (state S.Store conn.new) → HasTables (state S.Store conn.old)
+        → OnOk result (IsUnchanged (state S.Store conn.old) (state S.Store conn.new)) }
     ensures read { HasCleanDisk (state S.Store conn.new)
         → IfOk result (λ rows. (lists : Lists) → Holds (state S.Store conn.old) lists
         → Tells (0 ∷ []) (map group_alone (filter (has_text 0 value.now) lists.member))
@@ -146,8 +148,7 @@ pub fn read_audit_between<S: Alter>(
     end: i64,
 ) -> Result<Vec<Row>, Error>
     ensures mode { conn.old.in_transaction ≡ false → conn.new.in_transaction ≡ false }
-    ensures clean { doubt (state S.Store conn.old).is_clean
-        ≤ doubt (state S.Store conn.new).is_clean }
+    ensures spares { Spares (state S.Store conn.old) (state S.Store conn.new) }
     ensures read { HasCleanDisk (state S.Store conn.new)
         → IfOk result (λ rows. HasTables (state S.Store conn.old)
         → Tells (0 ∷ []) (filter (is_between first end) (shown (state S.Store conn.old).now).audit)
