@@ -18,7 +18,7 @@ use Rattle.scim_audit.specs.declared.audit_rows.AuditRow.{AuditRow}
 use Rattle.scim_body.specs.Drafts.{Draft, lacks_required}
 use Rattle.scim_change.specs.Replace.{changes, with_units, modified_at, if_complete, replaced}
 use Rattle.scim_patch_steps.specs.declared.steps.StepFault.{StepFault}
-use Rattle.scim_patch_steps.specs.Patch.{Patch, touched, all_stepped, changes as changes_by, finished, if_stepped, applied}
+use Rattle.scim_patch_steps.specs.Patch.{Patch, touched, patched, changes as changes_by, finished, if_stepped, applied}
 use Rattle.scim_patch_steps.specs.Kept.{patch_of}
 use Rattle.scim_policy.specs.declared.rules.Decision.{Decision}
 use Rattle.scim_policy.specs.Access.{Access, widening}
@@ -55,7 +55,7 @@ left_by c (Err e) = c
 -- and where it is patched
 pub patched_kind : (p : Patch) (moment : ℕ) (c x : Content) (changed : Bool) → applied p moment c ≡ Ok (x, changed) → (x.kind ≡ c.kind) × (x.id ≡ c.id)
 unfolding applied
-patched_kind p moment c x changed e = by_steps (all_stepped p.kind p.steps (Ok (rows c))) e
+patched_kind p moment c x changed e = by_steps (patched p (rows c)) e
   where
     finished_kind : (rs : List Row) → ((finished p moment c rs).kind ≡ c.kind) × ((finished p moment c rs).id ≡ c.id)
     finished_kind rs = elim (cases_Bool (changes_by p (rows c) rs)) [ inl t ↦ rw t (refl, refl) | inr f ↦ rw f (refl, refl) ]
