@@ -1,6 +1,6 @@
 -- The audit rows, counted while they are given.
 use Rattle.std.proofs.Common.{◌≡◌, ◌≢◌, ℕ, ◌+◌, ◌-◌, ◌<◌, ◌≤◌, suc, refl, sym, ◌∙◌, ap, subst, arith, List, [], ◌∷◌, ◌++◌, length, get_or}
-use Rattle.std.specs.Prelude.{All, Some, None, Result, Ok, Err, OnErr}
+use Rattle.std.specs.Prelude.{All, Some, None, Ok}
 use Rattle.std.proofs.lemmas.List.{length-append, append_assoc, get_or-append_right}
 use Rattle.std.proofs.lemmas.List.Elements.{All-nil, All-cons, All-append}
 use Rattle.sqlite_trees.specs.declared.store.Store as store
@@ -10,14 +10,13 @@ use Rattle.sqlite.specs.Held.{Held, state}
 use Rattle.sqlite.specs.Given.{HasGiven}
 use Rattle.sqlite.specs.Listing.{understood}
 use Rattle.sqlite.specs.Clock.{timed}
-use Rattle.sqlite.specs.State.{State, HasCleanDisk, IsUnchanged, Shown, Begins, Survives}
+use Rattle.sqlite.specs.State.{State, HasCleanDisk, IsUnchanged, Shown, Begins}
 use Rattle.sqlite.proofs.Callers.{begins_shown, EndsIn}
-use Rattle.sqlite.proofs.StateLemmas.{survives_then}
 use Rattle.scim_audit.specs.declared.audit_rows.AuditRow.{AuditRow}
 use Rattle.scim_store_tables.specs.Asks.{asked, IsAsk}
 use Rattle.scim_store_tables.specs.Queries.{rows_query}
 use Rattle.scim_store_tables.specs.declared.queries.Table.TheVariants.{Audit}
-use Rattle.scim_store_tables.specs.Reading.{HasTables, Spares, shown}
+use Rattle.scim_store_tables.specs.Reading.{HasTables, shown}
 use Rattle.scim_store_tables.specs.Whole.{AreInOrder}
 use Rattle.scim_store_tables.proofs.Facts.{answered, rows_told}
 use Rattle.scim_store_rows.specs.Audit.{audit_rows}
@@ -25,11 +24,6 @@ use Rattle.scim_store_rows.specs.AuditBack.{IsSound}
 use Rattle.scim_store_rows.specs.Auditing.{IsAuditRow, CountsAudit, TellsCount}
 use Rattle.scim_store_rows.proofs.ReadLemmas.{length-audit_rows, append-audit_rows, none_read}
 use Rattle.scim_store_rows.proofs.WalkLemmas.{unchanged_itself}
-
--- what holds in any case holds after an error
-pub on_err : {T E P : Type 0} (r : Result T E) → P → OnErr r P
-on_err (Ok x) holds = tt
-on_err (Err e) holds = holds
 
 -- ---- the rows that were given so far
 
@@ -104,7 +98,3 @@ stop_counted text first mid rows row count asks has same begins counts none =
       counts = count_stops rows whole.0 count row counts none;
       unchanged = same;
     }
-
--- a step of a query commits nothing
-pub spares_step : (a b c : State) → Spares a b → Survives b c (λ _. ⊥) → Spares a c
-spares_step a b c one two = survives_then a b c _ _ _ (λ _ db other. other) (λ _ db none. absurd none) one two

@@ -10,4 +10,5 @@ pub mod SpanLemmas
 pub mod Facts
 pub mod BackLemmas
 pub mod ReadLemmas
+pub mod SpareLemmas
 pub mod CountLemmas

@@ -1,11 +1,10 @@
 //! Reads audit rows by number.
 ghost use Rattle.std.specs.Prelude.{◌≡◌, ◌≢◌, ◌≤◌, ◌+◌, ℕ, List, false, length, pos, IfOk, OnOk};
 ghost use Rattle.sqlite.specs.State.{HasCleanDisk};
-ghost use Rattle.sqlite.specs.View.{doubt};
 ghost use Rattle.sqlite.specs.Held.{state};
 ghost use Rattle.scim_shelf.specs.Stores.{Store};
 ghost use Rattle.scim_store_tables.specs.Audit.{last_number};
-ghost use Rattle.scim_store_tables.specs.Reading.{Rests};
+ghost use Rattle.scim_store_tables.specs.Reading.{Rests, Spares};
 ghost use Rattle.scim_store_rows.specs.Audit.{audit_rows};
 ghost use Rattle.scim_store_rows.specs.Auditing.{TellsRows};
 ghost use Rattle.scim_store_rows.specs.Finding.{StandsIn};
@@ -72,8 +71,7 @@ pub fn read_audit_rows<S: Alter>(
     count: u64,
 ) -> Result<Vec<AuditRow>, Error>
     ensures mode { conn.old.in_transaction ≡ false → conn.new.in_transaction ≡ false }
-    ensures clean { doubt (state S.Store conn.old).is_clean
-        ≤ doubt (state S.Store conn.new).is_clean }
+    ensures spares { Spares (state S.Store conn.old) (state S.Store conn.new) }
     ensures read { HasCleanDisk (state S.Store conn.new)
         → IfOk result (λ rows. (base : List ℕ) (store : Store)
         → StandsIn base (state S.Store conn.old) store

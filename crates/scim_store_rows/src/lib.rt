@@ -1,5 +1,6 @@
 //! Reads a store from its database: resources by id, by unique name, by member value and by kind, and
-//! audit rows. The specs define which store the tables represent. No read changes anything.
+//! audit rows. The specs define which store the tables represent. No read changes anything, and a crash leaves
+//! only a state that a crash before the read could also leave.
 #![tactic(auto)]
 
 mod audit_columns;

@@ -1,12 +1,11 @@
 //! Finds resources in the tables by id, by unique name and by member value.
 
-ghost use Rattle.std.specs.Prelude.{◌≡◌, ◌≤◌, ℕ, List, [], ◌∷◌, true, false, None, option_map, string_bytes, IfOk, IfSome, IsTrue};
+ghost use Rattle.std.specs.Prelude.{◌≡◌, ℕ, List, [], ◌∷◌, true, false, None, option_map, string_bytes, IfOk, OnOk, IfSome, IsTrue};
 ghost use Rattle.std.specs.List.{list_any};
-ghost use Rattle.sqlite.specs.State.{HasCleanDisk};
-ghost use Rattle.sqlite.specs.View.{doubt};
+ghost use Rattle.sqlite.specs.State.{HasCleanDisk, IsUnchanged};
 ghost use Rattle.sqlite.specs.Held.{state};
 ghost use Rattle.scim_shelf.specs.Stores.{Store};
-ghost use Rattle.scim_store_tables.specs.Reading.{Rests};
+ghost use Rattle.scim_store_tables.specs.Reading.{Rests, Spares, HasTables};
 ghost use Rattle.scim_schema.specs.declared.Kind.TheVariants.{User};
 ghost use Rattle.scim_schema.specs.Units.{is_same_leaf};
 ghost use Rattle.scim_schema.specs.UniqueLeaves.{unique_leaves};
@@ -58,8 +57,9 @@ pub fn find_by_id<S: Alter>(
     id: Id,
 ) -> Result<Option<Resource>, Error>
     ensures mode { conn.old.in_transaction ≡ false → conn.new.in_transaction ≡ false }
-    ensures clean { doubt (state S.Store conn.old).is_clean
-        ≤ doubt (state S.Store conn.new).is_clean }
+    ensures spares { Spares (state S.Store conn.old) (state S.Store conn.new) }
+    ensures unchanged { HasCleanDisk (state S.Store conn.new) → HasTables (state S.Store conn.old)
+        → OnOk result (IsUnchanged (state S.Store conn.old) (state S.Store conn.new)) }
     ensures found { HasCleanDisk (state S.Store conn.new)
         → IfOk result (λ found. (store : Store) → StandsIn base.now (state S.Store conn.old) store
         → FindsById kind id store (state S.Store conn.old) (state S.Store conn.new) found) }
@@ -109,8 +109,9 @@ fn read_owner(leaf: Leaf, owner: Option<String>) -> Result<Option<Id>, Error>
 /// Returns the id of the resource that has a unique name; `None` if no resource has it.
 fn find_owner_id<S: Alter>(conn: &mut Connection<S>, name: &UniqueName) -> Result<Option<Id>, Error>
     ensures mode { conn.old.in_transaction ≡ false → conn.new.in_transaction ≡ false }
-    ensures clean { doubt (state S.Store conn.old).is_clean
-        ≤ doubt (state S.Store conn.new).is_clean }
+    ensures spares { Spares (state S.Store conn.old) (state S.Store conn.new) }
+    ensures unchanged { HasCleanDisk (state S.Store conn.new) → HasTables (state S.Store conn.old)
+        → OnOk result (IsUnchanged (state S.Store conn.old) (state S.Store conn.new)) }
     ensures id { IfOk result (λ found. IfSome found IsId) }
     ensures found { HasCleanDisk (state S.Store conn.new)
         → IfOk result (λ found. (base : List ℕ) (store : Store)
@@ -136,8 +137,7 @@ pub fn find_owner_of_name<S: Alter>(
     name: &UniqueName,
 ) -> Result<Option<Resource>, Error>
     ensures mode { conn.old.in_transaction ≡ false → conn.new.in_transaction ≡ false }
-    ensures clean { doubt (state S.Store conn.old).is_clean
-        ≤ doubt (state S.Store conn.new).is_clean }
+    ensures spares { Spares (state S.Store conn.old) (state S.Store conn.new) }
     ensures found { HasCleanDisk (state S.Store conn.new)
         → IfOk result (λ found. (store : Store) → StandsIn base.now (state S.Store conn.old) store
         → FindsOwner (name_of name.now) store (state S.Store conn.old)
@@ -162,8 +162,9 @@ fn find_group<S: Alter>(
     row: &Row,
 ) -> Result<Resource, Error>
     ensures mode { conn.old.in_transaction ≡ false → conn.new.in_transaction ≡ false }
-    ensures clean { doubt (state S.Store conn.old).is_clean
-        ≤ doubt (state S.Store conn.new).is_clean }
+    ensures spares { Spares (state S.Store conn.old) (state S.Store conn.new) }
+    ensures unchanged { HasCleanDisk (state S.Store conn.new) → HasTables (state S.Store conn.old)
+        → OnOk result (IsUnchanged (state S.Store conn.old) (state S.Store conn.new)) }
     ensures found { HasCleanDisk (state S.Store conn.new)
         → IfOk result (λ group. (store : Store) → StandsIn base.now (state S.Store conn.old) store
         → AreGroups store (row.now ∷ []) (state S.Store conn.old) (state S.Store conn.new) (group
@@ -188,8 +189,7 @@ fn find_groups<S: Alter>(
     rows: &[Row],
 ) -> Result<Vec<Resource>, Error>
     ensures mode { conn.old.in_transaction ≡ false → conn.new.in_transaction ≡ false }
-    ensures clean { doubt (state S.Store conn.old).is_clean
-        ≤ doubt (state S.Store conn.new).is_clean }
+    ensures spares { Spares (state S.Store conn.old) (state S.Store conn.new) }
     ensures found { HasCleanDisk (state S.Store conn.new)
         → IfOk result (λ groups. (store : Store) → StandsIn base.now (state S.Store conn.old) store
         → IsTrue (state S.Store conn.old).is_open
@@ -219,8 +219,7 @@ pub fn find_groups_with<S: Alter>(
     value: &str,
 ) -> Result<Vec<Resource>, Error>
     ensures mode { conn.old.in_transaction ≡ false → conn.new.in_transaction ≡ false }
-    ensures clean { doubt (state S.Store conn.old).is_clean
-        ≤ doubt (state S.Store conn.new).is_clean }
+    ensures spares { Spares (state S.Store conn.old) (state S.Store conn.new) }
     ensures found { HasCleanDisk (state S.Store conn.new)
         → IfOk result (λ groups. (store : Store) → StandsIn base.now (state S.Store conn.old) store
         → FindsGroups value.now store (state S.Store conn.old)

@@ -1,13 +1,11 @@
-//! Reads the resource that a change replaces or removes. Nothing is changed, and a crash leaves only a state
-//! that a crash before the call could also leave.
+//! Reads the resource that a change replaces or removes.
 
-ghost use Rattle.std.specs.Prelude.{◌≡◌, ◌≢◌, false, filter, option_map, string_bytes, IfOk};
-ghost use Rattle.sqlite.specs.State.{HasCleanDisk, Survives};
+ghost use Rattle.std.specs.Prelude.{◌≡◌, false, filter, option_map, string_bytes, IfOk};
+ghost use Rattle.sqlite.specs.State.{HasCleanDisk};
 ghost use Rattle.sqlite.specs.Held.{state};
 ghost use Rattle.scim_shelf.specs.Stores.{Store};
 ghost use Rattle.scim_store_tables.specs.Lists.{Lists, has_text};
-ghost use Rattle.scim_store_tables.specs.Reading.{Rests, Holds, Finds};
-ghost use Rattle.scim_store_tables.specs.Tables.{store_schema};
+ghost use Rattle.scim_store_tables.specs.Reading.{Rests, Spares, Holds, Finds};
 ghost use Rattle.scim_store_rows.specs.Finding.{StandsIn, FindsOld};
 
 use crate::look_ups::read_document;
@@ -20,8 +18,7 @@ use std::alloc::Global;
 /// Returns the document of the user or group with this id; `None` if there isn't one.
 fn find_document<S: Alter>(conn: &mut Connection<S>, id: &str) -> Result<Option<String>, Error>
     ensures mode { conn.old.in_transaction ≡ false → conn.new.in_transaction ≡ false }
-    ensures survives { Survives (state S.Store conn.old) (state S.Store conn.new)
-        (λ _. (state S.Store conn.old).now.schema ≢ store_schema) }
+    ensures spares { Spares (state S.Store conn.old) (state S.Store conn.new) }
     ensures found { HasCleanDisk (state S.Store conn.new)
         → IfOk result (λ found. (lists : Lists) → Holds (state S.Store conn.old) lists
         → Finds 2 (filter (has_text 0 id.now) lists.resources) (state S.Store conn.old)
@@ -50,8 +47,7 @@ pub fn find_old<S: Alter>(
     id: Id,
 ) -> Result<Option<Resource>, Error>
     ensures mode { conn.old.in_transaction ≡ false → conn.new.in_transaction ≡ false }
-    ensures survives { Survives (state S.Store conn.old) (state S.Store conn.new)
-        (λ _. (state S.Store conn.old).now.schema ≢ store_schema) }
+    ensures spares { Spares (state S.Store conn.old) (state S.Store conn.new) }
     ensures found { HasCleanDisk (state S.Store conn.new)
         → IfOk result (λ found. (store : Store) → StandsIn base.now (state S.Store conn.old) store
         → FindsOld id store (state S.Store conn.old) (state S.Store conn.new) found) }

@@ -1,17 +1,16 @@
 //! Passes the resources of a kind to a visitor.
 
-ghost use Rattle.std.specs.Prelude.{◌≡◌, ◌≢◌, ◌≤◌, ◌∷◌, [], false, IfOk, OnOk, IfErr};
+ghost use Rattle.std.specs.Prelude.{◌≡◌, ◌≢◌, ◌∷◌, [], false, IfOk, OnOk, IfErr};
 ghost use Rattle.std.specs.List.{FoldsTo};
 ghost use Rattle.std.specs.Option.{option_to_list};
 ghost use Rattle.sqlite.specs.declared.error.Error.{Error};
 ghost use Rattle.sqlite.specs.declared.error.ErrorCode.{ErrorCode};
 ghost use Rattle.sqlite.specs.State.{HasCleanDisk};
-ghost use Rattle.sqlite.specs.View.{doubt};
 ghost use Rattle.sqlite.specs.Held.{state};
 ghost use Rattle.scim_cell.specs.Kinds.{of_kind};
 ghost use Rattle.scim_shelf.specs.Stores.{Store};
 ghost use Rattle.scim_shelf.specs.Shelves.{TookPrefix};
-ghost use Rattle.scim_store_tables.specs.Reading.{Rests};
+ghost use Rattle.scim_store_tables.specs.Reading.{Rests, Spares};
 ghost use Rattle.scim_store_rows.specs.Stands.{Entry, IsEntry, resource_row};
 ghost use Rattle.scim_store_rows.specs.Finding.{StandsIn, Shows};
 
@@ -75,8 +74,7 @@ pub fn walk<S: Alter, V: Visitor>(
     visitor: &mut V,
 ) -> Result<(), Error>
     ensures mode { conn.old.in_transaction ≡ false → conn.new.in_transaction ≡ false }
-    ensures clean { doubt (state S.Store conn.old).is_clean
-        ≤ doubt (state S.Store conn.new).is_clean }
+    ensures spares { Spares (state S.Store conn.old) (state S.Store conn.new) }
     ensures shown { OnOk result (HasCleanDisk (state S.Store conn.new) → (store : Store)
         → StandsIn base.now (state S.Store conn.old) store
         → Shows V.Visitor.takes kind store (state S.Store conn.old)

@@ -3,10 +3,11 @@ use Rattle.sqlite.specs.State.{HasCleanDisk}
 use Rattle.sqlite.specs.Held.{state}
 use Rattle.sqlite.specs.Given.{row_if, IsRefused}
 use Rattle.sqlite.proofs.Callers.{unchanged_then, given_begin}
-use Rattle.scim_store_tables.proofs.Facts.{asks_spare, failed_rests, unchanged_rests}
+use Rattle.scim_store_tables.proofs.Facts.{asks_spare, failed_rests, unchanged_rests, any_err}
 use Rattle.scim_store_rows.proofs.FindLemmas.{rests_then}
 use Rattle.scim_store_rows.proofs.WalkLemmas.{begun_here}
-use Rattle.scim_store_rows.proofs.CountLemmas.{on_err, count_none, count_more, all_counted, stop_counted, spares_step}
+use Rattle.scim_store_rows.proofs.SpareLemmas.{spares_step}
+use Rattle.scim_store_rows.proofs.CountLemmas.{count_none, count_more, all_counted, stop_counted}
 use Rattle.scim_store_rows.proofs.audit_counting.count_audit.Goals as goal
 
 pub rows-init : goal.rows-init
@@ -75,7 +76,7 @@ returns-then-not-branch-clause-counted g c clean has =
     let last : c.conn-then-not-branch-1.given.0 ≡ c.advance.new.self.conn.now = search rules in
     rw last (stop_counted counts.text first new counts.list row c.rows.count counts.asks has (unchanged_then first old new it.1 (c.in_ok-advance.ensures.same late)) begins counts.sound (c.in_ok-is_audit_row.ensures.no c.if-not-branch.true))
 
--- ---- what is left
+-- ---- the clauses `spares` and `rests`
 
 pub returns-in_default-clause-spares : goal.returns-in_default-clause-spares
 returns-in_default-clause-spares g c =
@@ -117,7 +118,7 @@ returns-in_err-is_audit_row-clause-rests g c clean has =
     let late : HasCleanDisk new = search rules in
     let it = c.rows.invariant.counts.given has (omega (arith, late, c.advance.ensures.survives.clean)) in
     let last : c.conn-in_err-is_audit_row-1.given.0 ≡ c.advance.new.self.conn.now = search rules in
-    rw last (on_err _ (unchanged_rests first new (unchanged_then first old new it.1 (c.in_ok-advance.ensures.same late))))
+    rw last (any_err _ (unchanged_rests first new (unchanged_then first old new it.1 (c.in_ok-advance.ensures.same late))))
 
 pub returns-in_err-advance-clause-rests : goal.returns-in_err-advance-clause-rests
 returns-in_err-advance-clause-rests g c clean has =
@@ -128,7 +129,7 @@ returns-in_err-advance-clause-rests g c clean has =
     let late : HasCleanDisk new = search rules in
     let it = counts.given has (omega (arith, late, c.advance.ensures.survives.clean)) in
     let last : c.conn-in_err-advance-1.given.0 ≡ c.advance.new.self.conn.now = search rules in
-    rw last (on_err _ (rests_then first old new it.1 (failed_rests counts.text [] old new c.in_err-advance.field-0.0 (c.in_err-advance.ensures.err late counts.text [] counts.list it.0))))
+    rw last (any_err _ (rests_then first old new it.1 (failed_rests counts.text [] old new c.in_err-advance.field-0.0 (c.in_err-advance.ensures.err late counts.text [] counts.list it.0))))
 
 pub returns-clause-rests : goal.returns-clause-rests
 returns-clause-rests g c clean has =
@@ -144,4 +145,4 @@ returns-in_err-rows-clause-rests g c clean has =
     let first = c.args.conn.now in
     let last = c.query.follows.lender-at-none in
     let refused : IsRefused g.S.Store c.rows_query.result.now [] first c.query.result last = search rules in
-    on_err _ (failed_rests c.rows_query.result.now [] (state g.S.Store first) (state g.S.Store last) c.in_err-rows.field-0.0 (rw c.in_err-rows.was at (refused.err clean)))
+    any_err _ (failed_rests c.rows_query.result.now [] (state g.S.Store first) (state g.S.Store last) c.in_err-rows.field-0.0 (rw c.in_err-rows.was at (refused.err clean)))

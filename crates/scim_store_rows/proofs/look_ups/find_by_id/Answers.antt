@@ -1,6 +1,6 @@
 use Rattle.std.proofs.Common.{option_map, string_bytes}
 use Rattle.sqlite.specs.Held.{state}
-use Rattle.scim_store_tables.proofs.Facts.{if_then}
+use Rattle.scim_store_tables.proofs.Facts.{if_then, any_ok}
 use Rattle.scim_store_rows.proofs.FindLemmas.{finds_by_id, rests_where}
 use Rattle.scim_store_rows.proofs.look_ups.find_by_id.Goals as goal
 
@@ -15,3 +15,6 @@ returns-clause-rests g c clean store stands = rests_where c.args.base.now (state
 
 pub returns-in_err-document-clause-rests : goal.returns-in_err-document-clause-rests
 returns-in_err-document-clause-rests g c clean store stands = rests_where c.args.base.now (state g.S.Store c.args.conn.now) (state g.S.Store c.find_resource.new.conn) (c.find_resource.ensures.rests clean) store stands
+
+pub returns-clause-unchanged : goal.returns-clause-unchanged
+returns-clause-unchanged g c clean has = any_ok c.read_document.result (c.in_ok-document.ensures.unchanged clean has)

@@ -16,8 +16,8 @@ returns-clause-rests g c clean lists holds =
     old_rests (state g.S.Store c.args.conn.now) (state g.S.Store c.ask.new.conn) c.in_ok-rows.rows.items (c.in_ok-rows.ensures.was_open clean) c.args.id.now
     (λ q is has. rw (c.params-to_sql.ensures) at (c.in_ok-rows.ensures.read clean q is has)) lists holds
 
-pub returns-clause-survives : goal.returns-clause-survives
-returns-clause-survives g c = c.ask.ensures.spares old_query asks_old
+pub returns-clause-spares : goal.returns-clause-spares
+returns-clause-spares g c = c.ask.ensures.spares old_query asks_old
 
-pub returns-in_err-rows-clause-survives : goal.returns-in_err-rows-clause-survives
-returns-in_err-rows-clause-survives g c = c.ask.ensures.spares old_query asks_old
+pub returns-in_err-rows-clause-spares : goal.returns-in_err-rows-clause-spares
+returns-in_err-rows-clause-spares g c = c.ask.ensures.spares old_query asks_old

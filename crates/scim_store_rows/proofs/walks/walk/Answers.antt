@@ -5,11 +5,12 @@ use Rattle.sqlite.specs.Given.{row_if, IsRefused}
 use Rattle.sqlite.proofs.Callers.{unchanged_then, given_begin}
 use Rattle.scim_cell.specs.Kinds.{of_kind}
 use Rattle.scim_store_tables.proofs.Facts.{resources_text, asks_resources}
-use Rattle.scim_store_tables.proofs.Facts.{failed_rests, unchanged_rests}
+use Rattle.scim_store_tables.proofs.Facts.{asks_spare, failed_rests, unchanged_rests}
 use Rattle.scim_shelf.specs.Stores.{Store}
 use Rattle.scim_shelf.specs.Shelves.{TookPrefix}
 use Rattle.scim_store_rows.specs.Finding.{StandsIn}
 use Rattle.scim_store_rows.proofs.FindLemmas.{rests_then}
+use Rattle.scim_store_rows.proofs.SpareLemmas.{spares_step}
 use Rattle.scim_store_rows.proofs.WalkLemmas.{took_none, took_more, took_all, took_prefix, took_nothing, any_err, same_err, begun_here, stands_tables}
 use Rattle.scim_store_rows.proofs.walks.walk.Goals as goal
 
@@ -19,7 +20,7 @@ rows-init g c =
     record {
       same_reference = refl;
       mode = made.mode;
-      clean = omega (arith, made.survives.clean);
+      spares = asks_spare resources_text [] (state g.S.Store c.args.conn.now) (state g.S.Store c.in_ok-rows.rows.conn.now) _ asks_resources made.survives;
       given = ([], (λ store stands clean. begun_here g.S.Store resources_text _ asks_resources c.args.conn.now c.in_ok-rows.rows.conn.now (stands_tables c.args.base.now (state g.S.Store c.args.conn.now) store stands) (made.begun clean)), took_none g.V.Visitor.takes c.args.base.now c.args.kind c.args.visitor.now);
     }
 
@@ -31,7 +32,7 @@ rows-preserved g c =
     record {
       same_reference = c.in_ok-advance.ensures.same_reference ∙ inv.same_reference;
       mode = λ m. c.in_ok-advance.ensures.mode (inv.mode m);
-      clean = omega (arith, inv.clean, c.in_ok-advance.ensures.survives.clean);
+      spares = spares_step (state g.S.Store c.args.conn.now) (state g.S.Store c.rows.rows.conn.now) (state g.S.Store c.advance.new.self.conn.now) inv.spares c.in_ok-advance.ensures.survives;
       given = (
         inv.given.0 ++ row ∷ [],
         (λ store stands clean.
@@ -128,3 +129,30 @@ returns-in_err-show_row-clause-prefix g c clean =
     (let it = c.rows.invariant.given.1 store stands (omega (arith, late, c.advance.ensures.survives.clean)) in
     let same : c.show_row.new.visitor ≡ c.rows.visitor = c.in_err-show_row.ensures.untaken other in
     rw same (took_prefix g.V.Visitor.takes c.args.base.now c.args.kind first mid c.rows.invariant.given.0 c.args.visitor.now c.rows.visitor store stands it.1 (given_begin g.S.Store resources_text [] c.rows.rows.conn.now c.rows.invariant.given.0 it.0) c.rows.invariant.given.2)))
+
+pub returns-in_default-clause-spares : goal.returns-in_default-clause-spares
+returns-in_default-clause-spares g c =
+    let last : c.conn-in_default-1.given.0 ≡ c.advance.new.self.conn.now = search rules in
+    rw last (spares_step (state g.S.Store c.args.conn.now) (state g.S.Store c.rows.rows.conn.now) (state g.S.Store c.advance.new.self.conn.now) c.rows.invariant.spares c.advance.ensures.survives)
+
+pub returns-in_err-show_row-clause-spares : goal.returns-in_err-show_row-clause-spares
+returns-in_err-show_row-clause-spares g c =
+    let last : c.conn-in_err-show_row-1.given.0 ≡ c.advance.new.self.conn.now = search rules in
+    rw last (spares_step (state g.S.Store c.args.conn.now) (state g.S.Store c.rows.rows.conn.now) (state g.S.Store c.advance.new.self.conn.now) c.rows.invariant.spares c.advance.ensures.survives)
+
+pub returns-in_err-advance-clause-spares : goal.returns-in_err-advance-clause-spares
+returns-in_err-advance-clause-spares g c =
+    let last : c.conn-in_err-advance-1.given.0 ≡ c.advance.new.self.conn.now = search rules in
+    rw last (spares_step (state g.S.Store c.args.conn.now) (state g.S.Store c.rows.rows.conn.now) (state g.S.Store c.advance.new.self.conn.now) c.rows.invariant.spares c.advance.ensures.survives)
+
+pub returns-clause-spares : goal.returns-clause-spares
+returns-clause-spares g c =
+    let last : c.conn-2-1.given.0 ≡ c.rows.rows.conn.now = search rules in
+    rw last c.rows.invariant.spares
+
+pub returns-in_err-rows-clause-spares : goal.returns-in_err-rows-clause-spares
+returns-in_err-rows-clause-spares g c =
+    let first = c.args.conn.now in
+    let last = c.query.follows.lender-at-none in
+    let refused : IsRefused g.S.Store resources_text [] first c.query.result last = search rules in
+    asks_spare resources_text [] (state g.S.Store first) (state g.S.Store last) _ asks_resources refused.survives
