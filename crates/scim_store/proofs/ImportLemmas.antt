@@ -23,9 +23,8 @@ use Rattle.scim_store_tables.specs.Steps.{Became, Undoes, Leaves}
 use Rattle.scim_store_tables.specs.Tables.{no_schema}
 use Rattle.scim_store.specs.declared.edits.Edits.{Edits}
 use Rattle.scim_store_rows.specs.Audit.{kind_number}
-use Rattle.scim_store.specs.Committing.{HasStore, AreOf}
 use Rattle.scim_store.specs.Edits.{rows_of_names, rows_of_members, rows_of_document, Replaces}
-use Rattle.scim_store.specs.Importing.{HoldRowsOf, Fills, LeavesImported}
+use Rattle.scim_store.specs.Importing.{HoldRowsOf, Fills, LeavesImported, HasImported}
 use Rattle.scim_store_rows.specs.Stands.{Entry, StandsFor, IsEntry, lists_of, resource_row, name_row, name_rows, member_rows}
 use Rattle.scim_store.proofs.RowLemmas.{reordered}
 use Rattle.scim_store.proofs.StandLemmas.{document_rows, document_utf8}
@@ -102,14 +101,16 @@ stands_new base cs db store hold new =
     }
 
 module _ (base : List ℕ) (cs : List Content) (old new : State) (empty : old.now.schema ≡ no_schema) (below : All (HasBase base) cs) where
-  pub import_made : Became old new (Fills cs) → (old.now.schema ≡ no_schema) × ((store : Store) → IsNewStore cs store → HasStore base new store)
-  import_made became = (empty, λ store is. record { stands = λ _. stands_new base cs new.now store (became.changed empty base below) is; settled = λ _. became.settled })
+  pub import_made : Became old new (Fills cs) → HasImported base cs old new
+  import_made became =
+      let hold = became.changed empty base below in
+      record { was_empty = empty; is_open = became.is_open; settled = became.settled; rows = hold; stands = λ store is. stands_new base cs new.now store hold is }
 
   -- the law is the store's: what a crash leaves of an open one is its last commit
-  pub import_lasts : ((trees : Trees) → IsTrue new.is_open → new.may_leave trees → trees ≡ new.committed.trees) → Became old new (Fills cs)
-      → (store : Store) → IsNewStore cs store → (trees : Trees) → new.may_leave trees → AreOf base store trees
-  import_lasts law became store is trees left =
-      (new.now, law trees became.is_open left ∙ ap (λ (db : Database). db.trees) (sym became.settled), stands_new base cs new.now store (became.changed empty base below) is)
+  pub import_lasts : ((trees : Trees) → IsTrue new.is_open → new.may_leave trees → trees ≡ new.committed.trees) → Became old new (Fills cs) → (trees : Trees) → new.may_leave trees → LeavesImported base cs old trees
+  import_lasts law became trees left =
+      let hold = became.changed empty base below in
+      (empty, (new.now, law trees became.is_open left ∙ ap (λ (db : Database). db.trees) (sym became.settled), hold, λ store is. stands_new base cs new.now store hold is))
 
   pub import_survives : Survives old new (Leaves (Fills cs) old.now) → Survives old new (LeavesImported base cs old)
   import_survives = survives_weaker old new _ _ (λ _ trees leaves.

@@ -1,5 +1,5 @@
 -- The result of an import into an empty database.
-use Rattle.std.specs.Prelude.{◌≡◌, ℕ, List, [], map, All, IsPermutation}
+use Rattle.std.specs.Prelude.{◌≡◌, ℕ, List, [], map, All, IsPermutation, IsTrue}
 use Rattle.sqlite.specs.Effect.{Database}
 use Rattle.sqlite.specs.State.{State}
 use Rattle.sqlite.specs.Tree.{Trees}
@@ -27,3 +27,13 @@ Fills cs old new = old.schema ≡ no_schema → (base : List ℕ) → All (HasBa
 -- tables with the rows of all these resources.
 abbrev pub LeavesImported : List ℕ → List Content → State → Trees → Type 0
 LeavesImported base cs s trees = (s.now.schema ≡ no_schema) × ((db : Database) × (trees ≡ db.trees) × HoldRowsOf base cs db × ((store : Store) → IsNewStore cs store → StandsFor base db store))
+
+-- An import has succeeded: the database was empty, the connection is open and nothing is uncommitted, and the
+-- tables hold the rows of exactly these resources. They hold the new store of these resources, if there is one:
+-- there is none if two resources have the same id or share a unique name.
+pub record HasImported (base : List ℕ) (cs : List Content) (old new : State) : Type 0 where
+  pub was_empty : old.now.schema ≡ no_schema
+  pub is_open : IsTrue new.is_open
+  pub settled : new.now ≡ new.committed
+  pub rows : HoldRowsOf base cs new.now
+  pub stands : (store : Store) → IsNewStore cs store → StandsFor base new.now store

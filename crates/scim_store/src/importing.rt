@@ -6,14 +6,12 @@ ghost use Rattle.sqlite.specs.Held.{state};
 ghost use Rattle.sqlite.specs.Tree.{Trees};
 ghost use Rattle.scim_cell.specs.Content.{Content};
 ghost use Rattle.scim_value.specs.Resource.{HasBase};
-ghost use Rattle.scim_shelf.specs.Stores.{Store, IsNewStore};
 ghost use Rattle.scim_store_tables.specs.Lists.{Are, no_rows};
 ghost use Rattle.scim_store_tables.specs.Reading.{Rests};
 ghost use Rattle.scim_store_tables.specs.Steps.{DoesIn, Became, Undoes, Leaves};
 ghost use Rattle.scim_store_tables.specs.Tables.{no_schema};
 ghost use Rattle.scim_store.specs.declared.importing.ImportFault.{ImportFault};
-ghost use Rattle.scim_store.specs.Committing.{HasStore, AreOf};
-ghost use Rattle.scim_store.specs.Importing.{HoldRowsOf, Fills, LeavesImported};
+ghost use Rattle.scim_store.specs.Importing.{HoldRowsOf, Fills, LeavesImported, HasImported};
 
 use crate::changes::edits_to_keep;
 use crate::committing::is_below;
@@ -165,9 +163,8 @@ pub fn import<S: Alter>(
     requires { conn.old.in_transaction ≡ false }
     ensures idle { conn.new.in_transaction ≡ false }
     ensures made { HasCleanDisk (state S.Store conn.new)
-        → OnOk result (((state S.Store conn.old).now.schema ≡ no_schema)
-        × ((store : Store) → IsNewStore resources.now store
-        → HasStore base.now (state S.Store conn.new) store)) }
+        → OnOk result (HasImported base.now resources.now
+        (state S.Store conn.old) (state S.Store conn.new)) }
     ensures undone { HasCleanDisk (state S.Store conn.new)
         → OnErr result (Rests (state S.Store conn.old) (state S.Store conn.new)) }
     ensures not_empty { HasCleanDisk (state S.Store conn.new) → result ≡ Err ImportFault.NotEmpty
@@ -182,8 +179,8 @@ pub fn import<S: Alter>(
 
     // After Ok, a crash leaves the tables with all these resources.
     ensures durable { HasCleanDisk (state S.Store conn.new)
-        → OnOk result ((store : Store) → IsNewStore resources.now store
-        → (trees : Trees) → (state S.Store conn.new).may_leave trees → AreOf base.now store trees) }
+        → OnOk result ((trees : Trees) → (state S.Store conn.new).may_leave trees
+        → LeavesImported base.now resources.now (state S.Store conn.old) trees) }
 {
     if !are_below(alloc, base, resources)? {
         return Err(ImportFault::OtherBase);
