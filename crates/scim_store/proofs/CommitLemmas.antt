@@ -11,6 +11,7 @@ use Rattle.scim_shelf.specs.Stores.{Store, IsOld, after}
 use Rattle.scim_store_tables.specs.Audit.{audit_values}
 use Rattle.scim_store_tables.specs.declared.audit.AuditColumns.{AuditColumns}
 use Rattle.scim_store_tables.specs.Tables.{store_schema}
+use Rattle.scim_store_tables.specs.Reading.{Spares}
 use Rattle.scim_store_tables.specs.Steps.{Became, Leaves}
 use Rattle.scim_store.specs.declared.edits.Edits.{Edits}
 use Rattle.scim_store_rows.specs.Audit.{audit_row}
@@ -28,7 +29,7 @@ foreign_none base db foreign store stands = foreign stands.tables.schema
 looked_survives : (base : List ℕ) (change : Change) (row : AuditRow) (May : Store → Type 0) (db : Database) (trees : Trees) → db.schema ≢ store_schema → Leaves (Changes base change row May) db trees
 looked_survives base change row May db trees foreign = (record { schema = store_schema; trees = trees }, refl, λ store stands may. absurd (foreign_none base db foreign store stands))
 
-pub look_survives : (base : List ℕ) (change : Change) (row : AuditRow) (May : Store → Type 0) (a b : State) → Survives a b (λ _. a.now.schema ≢ store_schema) → Survives a b (Leaves (Changes base change row May) a.now)
+pub look_survives : (base : List ℕ) (change : Change) (row : AuditRow) (May : Store → Type 0) (a b : State) → Spares a b → Survives a b (Leaves (Changes base change row May) a.now)
 look_survives base change row May a b = survives_weaker a b _ _ (λ _ trees foreign. looked_survives base change row May a.now trees foreign)
 
 -- ---- what a change makes, where it is known what there is of its id
@@ -57,7 +58,7 @@ module _ (base : List ℕ) (change : Change) (row : AuditRow) (old : Option Cont
 
 module _ (base : List ℕ) (change : Change) (row : AuditRow) (old : Option Content) (number : ℕ) (a b c : State)
     (found : HasCleanDisk c → (store : Store) → StandsIn base a store → IsOld store.resources change old × Stays a b × (b.now ≡ a.now)) where
-  pub then_survives : Survives a b (λ _. a.now.schema ≢ store_schema) → Survives b c (Leaves (Changes base change row (IsDueOver old change number)) b.now)
+  pub then_survives : Spares a b → Survives b c (Leaves (Changes base change row (IsDueOver old change number)) b.now)
       → Survives a c (Leaves (Changes base change row (IsDue change number)) a.now)
   then_survives = survives_then a b c _ _ _ (λ _ trees foreign. looked_survives base change row (IsDue change number) a.now trees foreign) (λ clean trees leaves. (
     leaves.0,

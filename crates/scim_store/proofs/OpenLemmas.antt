@@ -1,12 +1,14 @@
 -- What the rows of a database tell of the store that its tables stand for.
-use Rattle.std.proofs.Common.{◌≡◌, ℕ, refl, sym, inl, inr, IsTrue, ap, subst, ◌∙◌, List, [], ◌∷◌, length}
-use Rattle.std.specs.Prelude.{Option, Some, None, IsPermutation}
+use Rattle.std.proofs.Common.{◌≡◌, ◌≤◌, ℕ, refl, sym, inl, inr, IsTrue, ap, subst, ◌∙◌, List, [], ◌∷◌, length}
+use Rattle.std.specs.Prelude.{Option, Some, None, IsPermutation, Result, Ok, Err, IfOk}
 use Rattle.std.specs.List.{AllByRecursion}
+use Rattle.std.proofs.lemmas.Result.{IfOk-weaker}
 use Rattle.std.proofs.lemmas.List.Sorted.{IsPermutation-sym, IsPermutation-trans}
 use Rattle.sqlite_trees.proofs.ListLemmas.{all-flat_map, all-map}
 use Rattle.sqlite.specs.Effect.{Database}
 use Rattle.sqlite.specs.Order.{Row, column}
 use Rattle.sqlite.specs.State.{State, HasCleanDisk, Survives}
+use Rattle.sqlite.specs.View.{doubt}
 use Rattle.sqlite.proofs.StateLemmas.{survives_then, survives_weaker}
 use Rattle.scim_store_tables.specs.Steps.{Leaves}
 use Rattle.scim_shelf.specs.Stores.{Store, AreKeyed}
@@ -19,6 +21,7 @@ use Rattle.scim_store_tables.specs.Tables.{store_schema}
 use Rattle.scim_store_tables.specs.Reading.{shown, Rests, Spares}
 use Rattle.scim_store_tables.specs.Whole.{AreInOrder, AreRowsOf as AreRead, Is, IsUntouched, IsReading}
 use Rattle.scim_store_tables.specs.declared.database_kinds.TableRows.{TableRows}
+use Rattle.scim_store_tables.specs.declared.database_kinds.DatabaseKind.{DatabaseKind}
 use Rattle.scim_store_tables.specs.declared.database_kinds.DatabaseKind.TheVariants.{WrongVersion as OtherVersion, Foreign as OtherProgram, Altered, Tables}
 use Rattle.scim_store_tables.proofs.Facts.{order_rising}
 use Rattle.scim_store_tables.proofs.Facts.{rows_of, holds_lists, altered_rows, altered_further, both_unchanged}
@@ -28,7 +31,7 @@ use Rattle.scim_store.specs.Damage.{AreOrdered, AreSound, HoldsAt, IsLeastDamage
 use Rattle.scim_store.specs.declared.damage.Judged.{Judged}
 use Rattle.scim_store.specs.declared.damage.Judged.TheVariants.{Sound, Damaged as DamagedAt, Foreign as ForeignRows}
 use Rattle.scim_store_rows.specs.Auditing.{CountsAudit, TellsCount}
-use Rattle.scim_store.specs.Opening.{resource_tables, by_count, by_judged, IsFor, Examines, ExaminesRows}
+use Rattle.scim_store.specs.Opening.{resource_tables, by_count, by_judged, IsFor, IsOpenIf, Examines, ExaminesRows}
 use Rattle.scim_store_rows.specs.Finding.{StandsIn}
 use Rattle.scim_store.specs.Shelves.{IsKeptIn, HasOpened, LeavesBegun}
 use Rattle.scim_store.specs.declared.examining.Examined.{Examined}
@@ -178,8 +181,22 @@ tables_rows db rows (inl (other, inl by)) = absurd by.1
 tables_rows db rows (inl (other, inr by)) = absurd by.1
 tables_rows db rows (inr is) = is.1
 
-pub reading_has : (old mid : State) (rows : TableRows) → IsTrue old.is_open → IsReading old mid (Tables rows) → mid.now.schema ≡ store_schema
+reading_has : (old mid : State) (rows : TableRows) → IsTrue old.is_open → IsReading old mid (Tables rows) → mid.now.schema ≡ store_schema
 reading_has old mid rows opened reading = ap (λ (d : Database). d.schema) (reading.untouched.unchanged opened).0.now_is ∙ tables_schema old.now rows reading.is
+
+-- the connection was open, and the five tables were read
+pub record WasRead (old mid : State) (rows : TableRows) : Type 0 where
+  pub opened : IsTrue old.is_open
+  pub reading : IsReading old mid (Tables rows)
+  pub has : mid.now.schema ≡ store_schema
+
+pub was_read : (old mid new : State) (kind : DatabaseKind) (rows : TableRows) → kind ≡ Tables rows → (HasCleanDisk mid → (rows : TableRows) → kind ≡ Tables rows → IsTrue old.is_open) → (HasCleanDisk mid → IsReading old mid kind)
+    → doubt mid.is_clean ≤ doubt new.is_clean → HasCleanDisk new → WasRead old mid rows
+was_read old mid new kind rows is opened reading grows clean =
+    let before = clean_before mid new grows clean in
+    let here = opened before rows is in
+    let told = subst (IsReading old mid) is (reading before) in
+    record { opened = here; reading = told; has = reading_has old mid rows here told }
 
 pub rows_examined : (base : List ℕ) (old mid new : State) (rows : TableRows) (it : Examined) → IsTrue old.is_open → IsReading old mid (Tables rows) → ExaminesRows base rows mid new it → Examines base old new it
 rows_examined base old mid new rows it opened reading told =
@@ -198,22 +215,48 @@ rows_survive old mid new rows opened reading one two =
     (let before = clean_before mid new two.clean clean in
     absurd (other (reading_has old mid rows (opened before) (reading before))))) one two
 
+-- ---- a connection that is open
+
+-- tables with further rows of `setting` hold no store
+altered_open : (base : List ℕ) (db : Database) (rows : TableRows) (it : Examined) (s : State) → Is db (Altered rows) → IsFor base db it → IsOpenIf it s
+altered_open base db rows (Stands count) s is told = absurd (altered_stand base db rows is told.0 told.1)
+altered_open base db rows Empty s is told = tt
+altered_open base db rows WrongVersion s is told = tt
+altered_open base db rows (Damaged id) s is told = tt
+altered_open base db rows Foreign s is told = tt
+
+pub altered_opened : {E : Type 0} (base : List ℕ) (db : Database) (rows : TableRows) (r : Result Examined E) (s : State) → Is db (Altered rows) → IfOk r (λ it. (db : Database) → Is db (Altered rows) → IsFor base db it) → IfOk r (λ it. IsOpenIf it s)
+altered_opened base db rows r s is told = IfOk-weaker r _ _ (λ it told. altered_open base db rows it s is (told db is)) told
+
+open_any : (it : Examined) (s : State) → IsTrue s.is_open → IsOpenIf it s
+open_any (Stands count) s opened = opened
+open_any Empty s opened = tt
+open_any WrongVersion s opened = tt
+open_any (Damaged id) s opened = tt
+open_any Foreign s opened = tt
+
+pub any_opened : {E : Type 0} (r : Result Examined E) (s : State) → IsTrue s.is_open → IfOk r (λ it. IsOpenIf it s)
+any_opened (Ok it) s opened = open_any it s opened
+any_opened (Err e) s opened = tt
+
 -- ---- a shelf over the tables
 
-pub opened_over : (base : List ℕ) (old mid new : State) (count rows : ℕ) → Examines base old mid (Stands count)
+pub opened_over : (base : List ℕ) (old mid new : State) (count rows : ℕ) → Examines base old mid (Stands count) → IsTrue new.is_open
     → ((store : Store) → StandsIn base mid store → length store.audit ≡ count → IsKeptIn base new rows store) → (store : Store) × HasOpened base old.now new rows store
-opened_over base old mid new count rows told kept = (
+opened_over base old mid new count rows told opened kept = (
   told.is.0,
   record {
+    is_open = opened;
     kept = kept told.is.0 (λ o. subst (λ (db : Database). StandsFor base db told.is.0) (sym (told.untouched.unchanged (told.untouched.was_open o)).0.now_is) told.is.1) told.is.3;
     opens = inr (told.is.1, told.is.2);
   },
 )
 
-pub opened_begun : (base : List ℕ) (old mid new : State) (rows : ℕ) → Examines base old mid Empty → IsTrue mid.is_open → (mid.now.schema ≡ no_schema → IsKeptIn base new rows no_store) → (store : Store) × HasOpened base old.now new rows store
-opened_begun base old mid new rows told opened kept = (
+pub opened_begun : (base : List ℕ) (old mid new : State) (rows : ℕ) → Examines base old mid Empty → IsTrue mid.is_open → IsTrue new.is_open → (mid.now.schema ≡ no_schema → IsKeptIn base new rows no_store) → (store : Store) × HasOpened base old.now new rows store
+opened_begun base old mid new rows told opened still kept = (
   no_store,
   record {
+    is_open = still;
     kept = kept (ap (λ (db : Database). db.schema) (told.untouched.unchanged (told.untouched.was_open opened)).0.now_is ∙ told.is);
     opens = inl (told.is, refl);
   },

@@ -1,5 +1,5 @@
 -- The result of examining a database.
-use Rattle.std.specs.Prelude.{◌≡◌, ◌⊎◌, ℕ, List, length, All, Option, Some, None}
+use Rattle.std.specs.Prelude.{◌≡◌, ◌⊎◌, ℕ, List, length, All, Option, Some, None, IsTrue, ⊤}
 use Rattle.sqlite.specs.Effect.{Database}
 use Rattle.sqlite.specs.State.{State}
 use Rattle.scim_shelf.specs.Stores.{Store}
@@ -63,6 +63,11 @@ IsFor base db (Stands count) = (store : Store) × StandsFor base db store × All
 IsFor base db WrongVersion = Is db OtherVersion × StandForNoSound base db
 IsFor base db (Damaged id) = IsDamagedAt base db id × StandForNoSound base db
 IsFor base db Foreign = (Is db OtherProgram ⊎ HoldsAtEach base db) × StandForNoSound base db
+
+-- A connection whose tables are found to hold a valid store is open. Other results say nothing of that.
+abbrev pub IsOpenIf : Examined → State → Type 0
+IsOpenIf (Stands count) s = IsTrue s.is_open
+IsOpenIf _ s = ⊤
 
 -- The result is correct for the database, and nothing is changed.
 pub record Examines (base : List ℕ) (old new : State) (examined : Examined) : Type 0 where

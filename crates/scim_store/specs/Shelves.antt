@@ -44,8 +44,9 @@ pub record CommitsWhole {T E : Type 0} (base : List ℕ) (change : Change) (row 
 abbrev pub Opens : List ℕ → Database → Store → Type 0
 Opens base db store = ((db.schema ≡ no_schema) × (store ≡ no_store)) ⊎ (StandsFor base db store × All IsSound store.audit)
 
--- A database is opened as this store, and `rows` is the number of its audit rows.
+-- A database is opened as this store, `rows` is the number of its audit rows, and its connection is open.
 pub record HasOpened (base : List ℕ) (db : Database) (s : State) (rows : ℕ) (store : Store) : Type 0 where
+  pub is_open : IsTrue s.is_open
   pub kept : IsKeptIn base s rows store
   pub opens : Opens base db store
 

@@ -1,6 +1,6 @@
 //! Commits a change with its audit row.
 
-ghost use Rattle.std.specs.Prelude.{◌≡◌, ◌≢◌, ◌≤◌, ◌↔◌, false, IfOk, OnOk, OnErr, IsTrue};
+ghost use Rattle.std.specs.Prelude.{◌≡◌, ◌≤◌, ◌↔◌, false, IfOk, OnOk, OnErr, IsTrue};
 ghost use Rattle.std.specs.Option.{option_copied};
 ghost use Rattle.sqlite.specs.State.{HasCleanDisk, Survives};
 ghost use Rattle.sqlite.specs.Held.{state};
@@ -9,7 +9,7 @@ ghost use Rattle.scim_value.specs.Resource.{HasBase};
 ghost use Rattle.scim_shelf.specs.Stores.{Store, IsOld, after};
 ghost use Rattle.scim_store_tables.specs.Audit.{last_number};
 ghost use Rattle.scim_store_tables.specs.Steps.{Leaves};
-ghost use Rattle.scim_store_tables.specs.Tables.{store_schema};
+ghost use Rattle.scim_store_tables.specs.Reading.{Spares};
 ghost use Rattle.scim_store.specs.declared.committing.CommitFault.{CommitFault};
 ghost use Rattle.scim_store_rows.specs.Finding.{StandsIn};
 ghost use Rattle.scim_store.specs.Edits.{KeepsBelow};
@@ -90,8 +90,7 @@ fn find_old_of<S: Alter>(
     change: &Change,
 ) -> Result<Option<Resource>, Error>
     ensures mode { conn.old.in_transaction ≡ false → conn.new.in_transaction ≡ false }
-    ensures survives { Survives (state S.Store conn.old) (state S.Store conn.new)
-        (λ _. (state S.Store conn.old).now.schema ≢ store_schema) }
+    ensures spares { Spares (state S.Store conn.old) (state S.Store conn.new) }
     ensures found { HasCleanDisk (state S.Store conn.new)
         → IfOk result (λ found. (store : Store) → StandsIn base.now (state S.Store conn.old) store
         → IsOld store.resources change.now found

@@ -131,6 +131,8 @@ pub(crate) fn examine<S: Alter>(
     ensures survives { Survives (state S.Store conn.old) (state S.Store conn.new) (λ _. ⊥) }
     ensures examined { HasCleanDisk (state S.Store conn.new)
         → IfOk result (spec.Examines base.now (state S.Store conn.old) (state S.Store conn.new)) }
+    ensures opened { HasCleanDisk (state S.Store conn.new)
+        → IfOk result (λ it. spec.IsOpenIf it (state S.Store conn.old)) }
     ensures rests { HasCleanDisk (state S.Store conn.new)
         → OnErr result (Rests (state S.Store conn.old) (state S.Store conn.new)) }
 {

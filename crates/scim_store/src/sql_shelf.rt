@@ -1,6 +1,7 @@
 //! A shelf over the tables of a database.
 
-ghost use Rattle.std.specs.Prelude.{◌≡◌, ◌≢◌, ◌<◌, ◌≤◌, ◌+◌, ℕ, List, Ok, Err, IfOk, IfErr, OnOk, OnErr, IsErr, IsTrue, length, false};
+ghost use Rattle.std.specs.Prelude.{◌≡◌, ◌≢◌, ◌<◌, ◌≤◌, ◌+◌, ℕ, List, Ok, Err, IfOk, IfErr, OnOk, OnErr, IsErr, IsTrue, find, filter, length, false};
+ghost use Rattle.std.specs.List.{FoldsTo};
 ghost use Rattle.std.specs.Option.{option_copied};
 ghost use Rattle.sqlite.specs.Effect.{Database};
 ghost use Rattle.sqlite.specs.declared.error.Error.{Error};
@@ -9,11 +10,13 @@ ghost use Rattle.sqlite.specs.State.{HasCleanDisk, Survives};
 ghost use Rattle.sqlite.specs.Held.{state};
 ghost use Rattle.scim_text.specs.declared.memory.Failed.{Failed};
 ghost use Rattle.scim_shelf.specs.declared.faults.ShelfFault.{ShelfFault};
-ghost use Rattle.scim_shelf.specs.Shelves.{Counts, Answers, OnlyReads, Commits, count_after};
-ghost use Rattle.scim_shelf.specs.Stores.{Store, AreKeyed, CanKeep, IsOld, last_number, after};
+ghost use Rattle.scim_cell.specs.Kinds.{of_kind};
+ghost use Rattle.scim_value.specs.Uniqueness.{name_of};
+ghost use Rattle.scim_shelf.specs.Shelves.{Counts, Answers, OnlyReads, ShowsPrefix, Commits, count_after};
+ghost use Rattle.scim_shelf.specs.Stores.{Store, AreKeyed, CanKeep, IsOld, is_at, has_name, is_group_with, last_number, after};
 ghost use Rattle.scim_store_rows.specs.Auditing.{AreRowsFrom};
 ghost use Rattle.scim_store.specs.declared.committing.CommitFault.{CommitFault};
-ghost use Rattle.scim_store_tables.specs.Reading.{Rests};
+ghost use Rattle.scim_store_tables.specs.Reading.{Rests, Spares};
 ghost use Rattle.scim_store_tables.specs.Tables.{no_schema};
 ghost use Rattle.scim_store_tables.specs.Steps.{Leaves};
 ghost use Rattle.scim_store.specs.Beginning.{no_store, Begins};
@@ -127,6 +130,7 @@ impl<S: Alter> SqlShelf<S> {
         requires { connection.in_transaction ≡ false }
         ensures kept { IfOk result (λ shelf. HasCleanDisk (state S.Store shelf.connection)
             → HasCleanDisk (state S.Store connection) × IsTrue (state S.Store connection).is_open
+            × IsTrue (state S.Store shelf.connection).is_open
             × ((state S.Store connection).now.schema ≡ no_schema
             → IsKeptIn base.now (state S.Store shelf.connection) shelf.rows no_store)) }
         ensures base { IfOk result (λ shelf. shelf.base ≡ base.now) }
@@ -217,6 +221,8 @@ impl<S: Alter> SqlShelf<S> {
         ensures read { OnlyReads ⟦<SqlShelf<S> as Shelf>⟧.stands
             ⟦<SqlShelf<S> as Shelf>⟧.is_honest ⟦<SqlShelf<S> as Shelf>⟧.failures
             self.old self.new result }
+        ensures spares { Spares (state S.Store (connection_of self.old))
+            (state S.Store (connection_of self.new)) }
     {
         let read = read_audit_rows(&mut self.connection, alloc, from, count);
         told(&mut self.failures, read)
@@ -307,7 +313,16 @@ impl<S: Alter> Shelf for SqlShelf<S> {
         alloc: Global,
         kind: Kind,
         id: Id,
-    ) -> Result<Option<Resource>, Failed<ShelfFault>> {
+    ) -> Result<Option<Resource>, Failed<ShelfFault>>
+        ensures answer { IfOk result (Answers ⟦<SqlShelf<S> as Shelf>⟧.stands
+            ⟦<SqlShelf<S> as Shelf>⟧.is_honest self.old self.new
+            (λ store found. found ≡ find (is_at kind id) store.resources)) }
+        ensures read { OnlyReads ⟦<SqlShelf<S> as Shelf>⟧.stands
+            ⟦<SqlShelf<S> as Shelf>⟧.is_honest ⟦<SqlShelf<S> as Shelf>⟧.failures
+            self.old self.new result }
+        ensures spares { Spares (state S.Store (connection_of self.old))
+            (state S.Store (connection_of self.new)) }
+    {
         let found = find_by_id(&mut self.connection, alloc, self.base.as_str(), kind, id);
         told(&mut self.failures, found)
     }
@@ -316,7 +331,16 @@ impl<S: Alter> Shelf for SqlShelf<S> {
         &mut self,
         alloc: Global,
         name: &UniqueName,
-    ) -> Result<Option<Resource>, Failed<ShelfFault>> {
+    ) -> Result<Option<Resource>, Failed<ShelfFault>>
+        ensures answer { IfOk result (Answers ⟦<SqlShelf<S> as Shelf>⟧.stands
+            ⟦<SqlShelf<S> as Shelf>⟧.is_honest self.old self.new
+            (λ store found. found ≡ find (has_name (name_of name.now)) store.resources)) }
+        ensures read { OnlyReads ⟦<SqlShelf<S> as Shelf>⟧.stands
+            ⟦<SqlShelf<S> as Shelf>⟧.is_honest ⟦<SqlShelf<S> as Shelf>⟧.failures
+            self.old self.new result }
+        ensures spares { Spares (state S.Store (connection_of self.old))
+            (state S.Store (connection_of self.new)) }
+    {
         let found = find_owner_of_name(&mut self.connection, alloc, self.base.as_str(), name);
         told(&mut self.failures, found)
     }
@@ -326,7 +350,22 @@ impl<S: Alter> Shelf for SqlShelf<S> {
         alloc: Global,
         value: &str,
         visitor: &mut V,
-    ) -> Result<(), Failed<ShelfFault>> {
+    ) -> Result<(), Failed<ShelfFault>>
+        ensures answer { OnOk result ((store : Store)
+            → ⟦<SqlShelf<S> as Shelf>⟧.stands self.old store
+            → ⟦<SqlShelf<S> as Shelf>⟧.is_honest self.new
+            → FoldsTo V.takes visitor.old
+            (filter (is_group_with value.now) store.resources) visitor.new) }
+        ensures prefix { ShowsPrefix ⟦<SqlShelf<S> as Shelf>⟧.stands
+            ⟦<SqlShelf<S> as Shelf>⟧.is_honest self.old self.new result
+            V.takes visitor.old
+            (λ store. filter (is_group_with value.now) store.resources) visitor.new }
+        ensures read { OnlyReads ⟦<SqlShelf<S> as Shelf>⟧.stands
+            ⟦<SqlShelf<S> as Shelf>⟧.is_honest ⟦<SqlShelf<S> as Shelf>⟧.failures
+            self.old self.new result }
+        ensures spares { Spares (state S.Store (connection_of self.old))
+            (state S.Store (connection_of self.new)) }
+    {
         let found = find_groups_with(&mut self.connection, alloc, self.base.as_str(), value);
         let groups = told(&mut self.failures, found)?;
         Ok(show_all(alloc, groups.as_slice(), visitor)?)
@@ -337,7 +376,20 @@ impl<S: Alter> Shelf for SqlShelf<S> {
         alloc: Global,
         kind: Kind,
         visitor: &mut V,
-    ) -> Result<(), Failed<ShelfFault>> {
+    ) -> Result<(), Failed<ShelfFault>>
+        ensures answer { OnOk result ((store : Store)
+            → ⟦<SqlShelf<S> as Shelf>⟧.stands self.old store
+            → ⟦<SqlShelf<S> as Shelf>⟧.is_honest self.new
+            → FoldsTo V.takes visitor.old (of_kind kind store.resources) visitor.new) }
+        ensures prefix { ShowsPrefix ⟦<SqlShelf<S> as Shelf>⟧.stands
+            ⟦<SqlShelf<S> as Shelf>⟧.is_honest self.old self.new result
+            V.takes visitor.old (λ store. of_kind kind store.resources) visitor.new }
+        ensures read { OnlyReads ⟦<SqlShelf<S> as Shelf>⟧.stands
+            ⟦<SqlShelf<S> as Shelf>⟧.is_honest ⟦<SqlShelf<S> as Shelf>⟧.failures
+            self.old self.new result }
+        ensures spares { Spares (state S.Store (connection_of self.old))
+            (state S.Store (connection_of self.new)) }
+    {
         let shown = walk(
             &mut self.connection,
             alloc,

@@ -14,3 +14,11 @@ pub returns-clause-crash : goal.returns-clause-crash
 returns-clause-crash g c =
     let old = state g.S.Store c.args.conn.now in
     survives_weaker old (state g.S.Store c.create_tables.new.conn) (Leaves MakesTables old.now) (Leaves Begins old.now) (λ _ trees leaves. leaves_begun old.now trees leaves) c.create_tables.ensures.crash
+
+-- by name, so that a body that breaks it is refused at once
+pub returns-clause-idle : goal.returns-clause-idle
+returns-clause-idle g c = c.create_tables.ensures.idle
+
+-- by name, so that a body that breaks it is refused at once
+pub returns-clause-undone : goal.returns-clause-undone
+returns-clause-undone g c = c.create_tables.ensures.undone

@@ -2,9 +2,8 @@ use Rattle.std.proofs.Common.{subst}
 use Rattle.std.proofs.lemmas.Result.{IfOk-weaker}
 use Rattle.sqlite.specs.Held.{state}
 use Rattle.scim_store_tables.specs.Whole.{IsReading}
-use Rattle.scim_store.proofs.OpenLemmas.{other_examined, reading_has, rows_examined, rows_survive}
+use Rattle.scim_store.proofs.OpenLemmas.{other_examined, was_read, rows_examined, rows_survive, altered_opened, any_opened}
 use Rattle.scim_store_tables.proofs.Facts.{err_behind}
-use Rattle.scim_store.proofs.ShelfLemmas.{clean_before}
 use Rattle.scim_store.proofs.examining.examine.Goals as goal
 
 pub returns-in-WrongVersion-clause-examined : goal.returns-in-WrongVersion-clause-examined
@@ -27,22 +26,33 @@ returns-in-Tables-clause-survives g c =
     rows_survive old mid (state g.S.Store c.examine_rows.new.conn) c.in-Tables.rows (λ clean. c.in_ok-read_tables.ensures.opened clean c.in-Tables.rows c.in-Tables.is)
     (λ clean. subst (IsReading old mid) c.in-Tables.is (c.in_ok-read_tables.ensures.read clean)) c.read_tables.ensures.survives c.examine_rows.ensures.spares
 
+pub returns-in-Altered-clause-opened : goal.returns-in-Altered-clause-opened
+returns-in-Altered-clause-opened g c clean =
+    let old = state g.S.Store c.args.conn.now in
+    let new = state g.S.Store c.read_tables.new.conn in
+    let reading = subst (IsReading old new) c.in-Altered.is (c.in_ok-read_tables.ensures.read clean) in
+    altered_opened c.args.base.now old.now c.in-Altered.rows c.examine_altered.result old reading.is c.examine_altered.ensures.examined
+
 pub returns-in-Tables-clause-examined : goal.returns-in-Tables-clause-examined
 returns-in-Tables-clause-examined g c clean =
     let old = state g.S.Store c.args.conn.now in
     let mid = state g.S.Store c.read_tables.new.conn in
     let new = state g.S.Store c.examine_rows.new.conn in
-    let before = clean_before mid new c.examine_rows.ensures.spares.clean clean in
-    let opened = c.in_ok-read_tables.ensures.opened before c.in-Tables.rows c.in-Tables.is in
-    let reading = subst (IsReading old mid) c.in-Tables.is (c.in_ok-read_tables.ensures.read before) in
-    IfOk-weaker c.examine_rows.result _ _ (λ it told. rows_examined c.args.base.now old mid new c.in-Tables.rows it opened reading told) (c.examine_rows.ensures.examined clean (λ _. reading_has old mid c.in-Tables.rows opened reading))
+    let was = was_read old mid new _ c.in-Tables.rows c.in-Tables.is c.in_ok-read_tables.ensures.opened c.in_ok-read_tables.ensures.read c.examine_rows.ensures.spares.clean clean in
+    IfOk-weaker c.examine_rows.result _ _ (λ it told. rows_examined c.args.base.now old mid new c.in-Tables.rows it was.opened was.reading told) (c.examine_rows.ensures.examined clean (λ _. was.has))
+
+pub returns-in-Tables-clause-opened : goal.returns-in-Tables-clause-opened
+returns-in-Tables-clause-opened g c clean =
+    let old = state g.S.Store c.args.conn.now in
+    let mid = state g.S.Store c.read_tables.new.conn in
+    let new = state g.S.Store c.examine_rows.new.conn in
+    let was = was_read old mid new _ c.in-Tables.rows c.in-Tables.is c.in_ok-read_tables.ensures.opened c.in_ok-read_tables.ensures.read c.examine_rows.ensures.spares.clean clean in
+    any_opened c.examine_rows.result old was.opened
 
 pub returns-in-Tables-clause-rests : goal.returns-in-Tables-clause-rests
 returns-in-Tables-clause-rests g c clean =
     let old = state g.S.Store c.args.conn.now in
     let mid = state g.S.Store c.read_tables.new.conn in
     let new = state g.S.Store c.examine_rows.new.conn in
-    let before = clean_before mid new c.examine_rows.ensures.spares.clean clean in
-    let opened = c.in_ok-read_tables.ensures.opened before c.in-Tables.rows c.in-Tables.is in
-    let reading = subst (IsReading old mid) c.in-Tables.is (c.in_ok-read_tables.ensures.read before) in
-    err_behind old mid new c.examine_rows.result (reading.untouched.unchanged opened) (c.examine_rows.ensures.rests clean (λ _. reading_has old mid c.in-Tables.rows opened reading))
+    let was = was_read old mid new _ c.in-Tables.rows c.in-Tables.is c.in_ok-read_tables.ensures.opened c.in_ok-read_tables.ensures.read c.examine_rows.ensures.spares.clean clean in
+    err_behind old mid new c.examine_rows.result (was.reading.untouched.unchanged was.opened) (c.examine_rows.ensures.rests clean (λ _. was.has))

@@ -1,21 +1,23 @@
-use Rattle.std.proofs.Common.{refl, subst, sym}
+use Rattle.std.proofs.Common.{refl, subst, sym, IsTrue}
 use Rattle.std.proofs.lemmas.Result.{IfOk-weaker, IfErr-weaker}
 use Rattle.sqlite.specs.Held.{state}
 use Rattle.sqlite.specs.State.{Survives}
 use Rattle.scim_store_tables.specs.Steps.{Leaves}
+use Rattle.scim_store_tables.proofs.Facts.{if_both}
 use Rattle.scim_store.specs.Beginning.{no_store, Begins}
 use Rattle.scim_store.proofs.ShelfLemmas.{clean_before}
 use Rattle.scim_store.proofs.sql_shelf.SqlShelf.begin.Goals as goal
 
 pub returns-in-Ok-clause-kept : goal.returns-in-Ok-clause-kept
 returns-in-Ok-clause-kept g c =
-    IfOk-weaker c.over.result _ _ (λ shelf kept clean.
+    if_both c.over.result _ _ _ (λ shelf same kept clean.
     (let both = kept clean in
     let made = c.in-Ok.ensures.made both.0 in (
       clean_before (state g.S.Store c.args.connection) (state g.S.Store c.begin_store.new.conn) c.begin_store.ensures.crash.clean both.0,
       made.was_open,
+      subst (λ conn. IsTrue (state g.S.Store conn).is_open) (sym same) made.is_open,
       λ empty. both.1 no_store (λ _. made.changed empty c.args.base.now) refl,
-    ))) c.over.ensures.kept
+    ))) c.over.ensures.same c.over.ensures.kept
 
 pub returns-in-Ok-clause-crash : goal.returns-in-Ok-clause-crash
 returns-in-Ok-clause-crash g c =

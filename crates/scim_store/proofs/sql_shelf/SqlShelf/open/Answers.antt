@@ -1,9 +1,10 @@
-use Rattle.std.proofs.Common.{subst, sym}
+use Rattle.std.proofs.Common.{subst, sym, IsTrue}
 use Rattle.std.proofs.lemmas.Result.{IfOk-weaker, IfErr-weaker}
 use Rattle.sqlite.specs.Held.{state}
 use Rattle.sqlite.specs.State.{HasCleanDisk, Survives}
 use Rattle.scim_store_tables.specs.Reading.{Rests}
-use Rattle.scim_store.specs.Opening.{IsFor, Examines}
+use Rattle.scim_store_tables.proofs.Facts.{if_both}
+use Rattle.scim_store.specs.Opening.{IsFor, IsOpenIf, Examines}
 use Rattle.scim_store.specs.Shelves.{LeavesBegun}
 use Rattle.scim_store.proofs.OpenLemmas.{opened_over, opened_begun, rests_untouched, untouched_survives, begun_survives}
 use Rattle.scim_store.proofs.sql_shelf.SqlShelf.open.Goals as goal
@@ -19,14 +20,17 @@ returns-in-Empty-clause-opened g c =
     let old = state g.S.Store c.args.connection in
     let mid = state g.S.Store c.examine.new.conn in
     IfOk-weaker c.begin.result _ _ (λ shelf kept clean.
-    (let all = kept clean in opened_begun c.args.base.now old mid (state g.S.Store shelf.connection) shelf.rows (subst (Examines c.args.base.now old mid) c.in-Empty.is (c.in-Ok.ensures.examined all.0)) all.1 all.2)) c.begin.ensures.kept
+    (let all = kept clean in opened_begun c.args.base.now old mid (state g.S.Store shelf.connection) shelf.rows (subst (Examines c.args.base.now old mid) c.in-Empty.is (c.in-Ok.ensures.examined all.0)) all.1 all.2 all.3)) c.begin.ensures.kept
 
 pub returns-in-Stands-clause-opened : goal.returns-in-Stands-clause-opened
 returns-in-Stands-clause-opened g c =
     let old = state g.S.Store c.args.connection in
     let mid = state g.S.Store c.examine.new.conn in
-    IfOk-weaker c.over.result _ _ (λ shelf kept clean.
-    opened_over c.args.base.now old mid (state g.S.Store shelf.connection) c.in-Stands.rows shelf.rows (subst (Examines c.args.base.now old mid) c.in-Stands.is (c.in-Ok.ensures.examined (kept clean).0)) (kept clean).1) c.over.ensures.kept
+    if_both c.over.result _ _ _ (λ shelf same kept clean.
+    (let told = subst (Examines c.args.base.now old mid) c.in-Stands.is (c.in-Ok.ensures.examined (kept clean).0) in
+    let opened : IsTrue old.is_open = subst (λ it. IsOpenIf it old) c.in-Stands.is (c.in-Ok.ensures.opened (kept clean).0) in
+    let still = subst (λ conn. IsTrue (state g.S.Store conn).is_open) (sym same) (told.untouched.unchanged opened).0.is_open in
+    opened_over c.args.base.now old mid (state g.S.Store shelf.connection) c.in-Stands.rows shelf.rows told still (kept clean).1)) c.over.ensures.same c.over.ensures.kept
 
 pub returns-in-Stands-clause-refused : goal.returns-in-Stands-clause-refused
 returns-in-Stands-clause-refused g c = IfErr-weaker c.over.result _ _ (λ e refused _. refused c.args.base.now (state g.S.Store c.args.connection).now) c.over.ensures.refused

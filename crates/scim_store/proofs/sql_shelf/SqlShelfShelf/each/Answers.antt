@@ -15,4 +15,7 @@ returns-clause-prefix g c = λ failed store stands honest.
     let new = state g.S.Store c.walk-shown.new.conn in
     let device = c.told.ensures.device failed in
     let shown = subst (λ r. IfErr r (λ e. e ≢ SqliteFailure OutOfMemory → (store : Store) → StandsIn c.args.self.now.base old store → TookPrefix g.V.Visitor.takes c.args.visitor.now (of_kind c.args.kind store.resources) c.walk-shown.new.visitor)) device.1 (rw c.as_str.ensures at (c.walk-shown.ensures.prefix honest)) in
-    shown device.2 store (λ opened. (stands.stored (clean_before old new c.walk-shown.ensures.clean honest)).stands opened)
+    shown device.2 store (λ opened. (stands.stored (clean_before old new c.walk-shown.ensures.spares.clean honest)).stands opened)
+
+pub returns-clause-spares : goal.returns-clause-spares
+returns-clause-spares g c = c.walk-shown.ensures.spares
