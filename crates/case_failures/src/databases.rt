@@ -12,7 +12,7 @@ use scim_policy_file::read_policy;
 use scim_samples::{BASE, POLICY, USERS};
 use scim_schema::Kind;
 use scim_service::Service;
-use scim_shelf::all_of;
+use scim_shelf::{CacheContents, all_of};
 use scim_store::{SqlShelf, import};
 use scim_store_tables::is_empty_database;
 use scim_text::NoMemory;
@@ -44,7 +44,12 @@ pub(crate) fn work_over<S: Alter>(
 {
     match work {
         Work::Fill => fill(alloc, connection),
-        Work::Answer(requests) => match SqlShelf::open(alloc, connection, BASE) {
+        Work::Answer(requests) => match SqlShelf::open(
+            alloc,
+            connection,
+            BASE,
+            &mut CacheContents::none(),
+        ) {
             Ok(shelf) => answer(alloc, shelf, requests),
             Err((_, connection)) => (None, connection),
         },
@@ -69,7 +74,7 @@ fn look_into<S: Alter>(alloc: Global, connection: Connection<S>) -> (Option<Stri
     requires { connection.in_transaction ≡ false }
 {
     let has_tables = !is_empty_database(&connection);
-    match SqlShelf::open(alloc, connection, BASE) {
+    match SqlShelf::open(alloc, connection, BASE, &mut CacheContents::none()) {
         Ok(shelf) => look(alloc, shelf, has_tables),
         Err((_, connection)) => (None, connection),
     }

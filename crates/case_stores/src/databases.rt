@@ -5,7 +5,7 @@ use crate::faults::StoreFault;
 use case_values::{Case, CaseFault, text_or_json};
 use scim_json::read_documents;
 use scim_samples::{BASE, USERS};
-use scim_shelf::MemoryShelf;
+use scim_shelf::{CacheContents, MemoryShelf};
 use scim_store::{SqlShelf, import};
 use sqlite::{Alter, Connection};
 
@@ -51,7 +51,12 @@ pub fn opened<S: Alter + Drop>(
 ) -> Result<SqlShelf<S>, StoreFault>
     requires { connection.in_transaction ≡ false }
 {
-    match SqlShelf::open(case.alloc, connection, base_of(case)) {
+    match SqlShelf::open(
+        case.alloc,
+        connection,
+        base_of(case),
+        &mut CacheContents::none(),
+    ) {
         Ok(shelf) => Ok(shelf),
         Err((_, _connection)) => Err(StoreFault::NotOpened),
     }

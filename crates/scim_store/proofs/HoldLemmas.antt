@@ -45,7 +45,7 @@ members_of_one : (e : Entry) → map group_first (flat_map member_rows (e ∷ []
 members_of_one e = ap (map group_first) (append-nil (member_rows e)) ∙ map-map group_first (member_row e.content.id) e.members
 
 -- values in order are each there once
-once_rising : (vs : List (List ℕ)) → IsStrictlySortedBy (slice_cmp nat_cmp) vs → AllPairs (λ v w. v ≢ w) vs
+pub once_rising : (vs : List (List ℕ)) → IsStrictlySortedBy (slice_cmp nat_cmp) vs → AllPairs (λ v w. v ≢ w) vs
 once_rising [] up = λ i j d h k. absurd (omega (arith, k))
 once_rising (v ∷ vs) up =
     AllPairs-cons (λ x y. x ≢ y) v vs

@@ -15,6 +15,7 @@ pub mod HoldLemmas
 pub mod LeastLemmas
 pub mod JudgeLemmas
 pub mod ApartLemmas
+pub mod PassLemmas
 pub mod OpenLemmas
 pub mod ShelfLemmas
 pub mod ImportLemmas

@@ -1,6 +1,6 @@
 -- What the rows of a database tell of the store that its tables stand for.
 use Rattle.std.proofs.Common.{◌≡◌, ◌≤◌, ℕ, refl, sym, inl, inr, IsTrue, ap, subst, ◌∙◌, List, [], ◌∷◌, length}
-use Rattle.std.specs.Prelude.{Option, Some, None, IsPermutation, Result, Ok, Err, IfOk}
+use Rattle.std.specs.Prelude.{Option, Some, None, IsPermutation, Result, Ok, Err, IfOk, OnOk}
 use Rattle.std.specs.List.{AllByRecursion}
 use Rattle.std.proofs.lemmas.Result.{IfOk-weaker}
 use Rattle.std.proofs.lemmas.List.Sorted.{IsPermutation-sym, IsPermutation-trans}
@@ -11,6 +11,8 @@ use Rattle.sqlite.specs.State.{State, HasCleanDisk, Survives}
 use Rattle.sqlite.specs.View.{doubt}
 use Rattle.sqlite.proofs.StateLemmas.{survives_then, survives_weaker}
 use Rattle.scim_store_tables.specs.Steps.{Leaves}
+use Rattle.scim_shelf.specs.declared.copies.CacheContents.{CacheContents}
+use Rattle.scim_shelf.specs.Caches.{HasCached}
 use Rattle.scim_shelf.specs.Stores.{Store, AreKeyed}
 use Rattle.scim_value.specs.Uniqueness.{Name, unique_names}
 use Rattle.scim_store_tables.specs.Tables.{no_schema}
@@ -31,7 +33,7 @@ use Rattle.scim_store.specs.Damage.{AreOrdered, AreSound, HoldsAt, IsLeastDamage
 use Rattle.scim_store.specs.declared.damage.Judged.{Judged}
 use Rattle.scim_store.specs.declared.damage.Judged.TheVariants.{Sound, Damaged as DamagedAt, Foreign as ForeignRows}
 use Rattle.scim_store_rows.specs.Auditing.{CountsAudit, TellsCount}
-use Rattle.scim_store.specs.Opening.{resource_tables, by_count, by_judged, IsFor, IsOpenIf, Examines, ExaminesRows}
+use Rattle.scim_store.specs.Opening.{resource_tables, by_count, by_judged, HasCopied, HasCopiedIf, IsFor, IsOpenIf, Examines, ExaminesRows}
 use Rattle.scim_store_rows.specs.Finding.{StandsIn}
 use Rattle.scim_store.specs.Shelves.{IsKeptIn, HasOpened, LeavesBegun}
 use Rattle.scim_store.specs.declared.examining.Examined.{Examined}
@@ -176,7 +178,7 @@ tables_schema db rows (inl (other, inr by)) = absurd by.1
 tables_schema db rows (inr is) = is.0
 
 -- and have these rows
-tables_rows : (db : Database) (rows : TableRows) → Is db (Tables rows) → Are db (shown db) × AreRead (shown db) rows
+pub tables_rows : (db : Database) (rows : TableRows) → Is db (Tables rows) → Are db (shown db) × AreRead (shown db) rows
 tables_rows db rows (inl (other, inl by)) = absurd by.1
 tables_rows db rows (inl (other, inr by)) = absurd by.1
 tables_rows db rows (inr is) = is.1
@@ -239,6 +241,30 @@ pub any_opened : {E : Type 0} (r : Result Examined E) (s : State) → IsTrue s.i
 any_opened (Ok it) s opened = open_any it s opened
 any_opened (Err e) s opened = tt
 
+-- ---- copies
+
+copied_any : (it : Examined) (base : List ℕ) (db : Database) (copies : CacheContents) → HasCopied base db copies → HasCopiedIf it base db copies
+copied_any (Stands count) base db copies copied = copied
+copied_any Empty base db copies copied = tt
+copied_any WrongVersion base db copies copied = tt
+copied_any (Damaged id) base db copies copied = tt
+copied_any Foreign base db copies copied = tt
+
+pub any_copied : {E : Type 0} (r : Result Examined E) (base : List ℕ) (db : Database) (copies : CacheContents) → OnOk r (HasCopied base db copies) → IfOk r (λ it. HasCopiedIf it base db copies)
+any_copied (Ok it) base db copies copied = copied_any it base db copies copied
+any_copied (Err e) base db copies copied = tt
+
+-- tables with further rows of `setting` hold no store
+altered_copied : (base : List ℕ) (db : Database) (rows : TableRows) (it : Examined) (copies : CacheContents) → Is db (Altered rows) → IsFor base db it → HasCopiedIf it base db copies
+altered_copied base db rows (Stands count) copies is told = absurd (altered_stand base db rows is told.0 told.1)
+altered_copied base db rows Empty copies is told = tt
+altered_copied base db rows WrongVersion copies is told = tt
+altered_copied base db rows (Damaged id) copies is told = tt
+altered_copied base db rows Foreign copies is told = tt
+
+pub none_copied : {E : Type 0} (base : List ℕ) (db : Database) (rows : TableRows) (r : Result Examined E) (copies : CacheContents) → Is db (Altered rows) → IfOk r (λ it. (db : Database) → Is db (Altered rows) → IsFor base db it) → IfOk r (λ it. HasCopiedIf it base db copies)
+none_copied base db rows r copies is told = IfOk-weaker r _ _ (λ it told. altered_copied base db rows it copies is (told db is)) told
+
 -- ---- a shelf over the tables
 
 pub opened_over : (base : List ℕ) (old mid new : State) (count rows : ℕ) → Examines base old mid (Stands count) → IsTrue new.is_open
@@ -261,6 +287,14 @@ opened_begun base old mid new rows told opened still kept = (
     opens = inl (told.is, refl);
   },
 )
+
+-- the resources of each store of an opened shelf were copied
+pub copied_over : (base own : List ℕ) (old mid new : State) (count rows : ℕ) (copies : CacheContents) (store : Store) → own ≡ base → Examines base old mid (Stands count) → IsTrue old.is_open → new ≡ mid → HasCopied base old.now copies → HasCleanDisk new → IsKeptIn own new rows store
+    → HasCached store.resources copies
+copied_over base own old mid new count rows copies store is told opened same copied clean kept =
+    let still = (told.untouched.unchanged opened).0 in
+    let here = (kept.stored clean).stands (subst (λ (s : State). IsTrue s.is_open) (sym same) still.is_open) in
+    copied store (subst (λ b. StandsFor b old.now store) is (subst (λ (db : Database). StandsFor own db store) (ap (λ (s : State). s.now) same ∙ still.now_is) here))
 
 -- ---- what an opening leaves
 

@@ -190,7 +190,7 @@ above_contents : (x : List ℕ) (es : List Entry) → AllByRecursion (λ (b : En
 above_contents x [] up = tt
 above_contents x (e ∷ es) up = (up.0, above_contents x es up.1)
 
-keyed_all : (es : List Entry) → IsStrictlySortedBy (λ (a b : Entry). slice_cmp nat_cmp a.content.id b.content.id) es → IsDistinct is_shared (flat_map (λ b. map owner_first (name_rows b)) es) → AreKeyed (contents es)
+pub keyed_all : (es : List Entry) → IsStrictlySortedBy (λ (a b : Entry). slice_cmp nat_cmp a.content.id b.content.id) es → IsDistinct is_shared (flat_map (λ b. map owner_first (name_rows b)) es) → AreKeyed (contents es)
 keyed_all [] rising distinct = keyed_nil
 keyed_all (e ∷ es) rising distinct =
     (let up = sorted_head (λ (a b : Entry). slice_cmp nat_cmp a.content.id b.content.id) e es rising in

@@ -2,6 +2,8 @@
 use Rattle.std.specs.Prelude.{◌≡◌, ◌⊎◌, ℕ, List, length, All, Option, Some, None, IsTrue, ⊤}
 use Rattle.sqlite.specs.Effect.{Database}
 use Rattle.sqlite.specs.State.{State}
+use Rattle.scim_shelf.specs.declared.copies.CacheContents.{CacheContents}
+use Rattle.scim_shelf.specs.Caches.{HasCached}
 use Rattle.scim_shelf.specs.Stores.{Store}
 use Rattle.scim_cell.specs.Ids.{IsId}
 use Rattle.scim_store_tables.specs.Tables.{no_schema}
@@ -68,6 +70,16 @@ IsFor base db Foreign = (Is db OtherProgram ⊎ HoldsAtEach base db) × StandFor
 abbrev pub IsOpenIf : Examined → State → Type 0
 IsOpenIf (Stands count) s = IsTrue s.is_open
 IsOpenIf _ s = ⊤
+
+-- The copies, unless memory ran out, are those of the resources of each store that the tables hold.
+abbrev pub HasCopied : List ℕ → Database → CacheContents → Type 0
+HasCopied base db contents = (store : Store) → StandsFor base db store → HasCached store.resources contents
+
+-- If the tables are found to hold a valid store, its resources have been copied. Other results say nothing of
+-- the copies.
+abbrev pub HasCopiedIf : Examined → List ℕ → Database → CacheContents → Type 0
+HasCopiedIf (Stands count) base db contents = HasCopied base db contents
+HasCopiedIf _ base db contents = ⊤
 
 -- The result is correct for the database, and nothing is changed.
 pub record Examines (base : List ℕ) (old new : State) (examined : Examined) : Type 0 where

@@ -83,7 +83,7 @@ fn is_triple(row: &Row, first: &str, second: &str, third: &str) -> bool
 }
 
 /// Whether these are the rows of the unique names `names` of the resource with the id, in the same order.
-fn are_names(rows: &[Row], id: &str, names: &[UniqueName]) -> bool
+pub(crate) fn are_names(rows: &[Row], id: &str, names: &[UniqueName]) -> bool
     ensures { result ≡ true ↔ rows.now ≡ map (code.owned_name id.now) (map name_of names.now) }
 {
     if rows.len() != names.len() {
@@ -104,7 +104,7 @@ fn are_names(rows: &[Row], id: &str, names: &[UniqueName]) -> bool
 }
 
 /// Whether these are the rows of the member values `values` of the group with the id, in the same order.
-fn are_members(rows: &[Row], id: &str, values: &[Text]) -> bool
+pub(crate) fn are_members(rows: &[Row], id: &str, values: &[Text]) -> bool
     ensures { result ≡ true ↔ rows.now ≡ map (code.owned_member id.now) values.now }
 {
     if rows.len() != values.len() {
@@ -119,7 +119,7 @@ fn are_members(rows: &[Row], id: &str, values: &[Text]) -> bool
 }
 
 /// Returns the values that a resource lists among its members, sorted, each once.
-fn listed_values(alloc: Global, resource: &Resource) -> Result<Vec<Text>, NoMemory>
+pub(crate) fn listed_values(alloc: Global, resource: &Resource) -> Result<Vec<Text>, NoMemory>
     ensures listed { IfOk result (λ values. (v : List ℕ)
         → is_among v values.items ≡ lists_value v resource.now) }
     ensures rising { IfOk result (λ values. IsStrictlySortedBy (slice_cmp nat_cmp) values.items) }
@@ -172,7 +172,11 @@ fn document_of(row: &Row) -> Option<&str>
 
 /// Reads a resource from its row; `None` if the row isn't the row of a valid resource with a location below
 /// the base URI.
-fn read_resource(alloc: Global, base: &str, row: &Row) -> Result<Option<Resource>, NoMemory>
+pub(crate) fn read_resource(
+    alloc: Global,
+    base: &str,
+    row: &Row,
+) -> Result<Option<Resource>, NoMemory>
     ensures some { IfOk result (λ found. IfSome found (code.IsRowOf base.now row.now)) }
     ensures none { IfOk result (λ found. found ≡ None → (c : Content)
         → code.IsRowOf base.now row.now c → ⊥) }
@@ -326,7 +330,7 @@ fn text_of_name(name: &Row) -> Option<&[u8]>
 /// Whether each row of a unique name has a folded text, and no two rows have the same. The attribute isn't
 /// compared: only one attribute has unique names, and a resource has at most one unique name. The set is
 /// ordered, so no choice of names makes a look-up slow.
-fn are_apart(alloc: Global, names: &[Row]) -> Result<bool, NoMemory>
+pub(crate) fn are_apart(alloc: Global, names: &[Row]) -> Result<bool, NoMemory>
     ensures yes { IfOk result (λ apart. apart ≡ true → IsDistinct spec.is_shared names.now) }
     ensures no { IfOk result (λ apart. apart ≡ false → All code.HasName names.now
         → IsDistinct spec.is_shared names.now → ⊥) }

@@ -1,20 +1,23 @@
 //! The examination of a database before it is opened as a store.
 
-ghost use Rattle.std.specs.Prelude.{◌≡◌, ◌≤◌, false, IfOk, IfErr, OnErr};
+ghost use Rattle.std.specs.Prelude.{◌≡◌, ◌≤◌, [], false, IfOk, OnOk, IfErr, OnErr};
 ghost use Rattle.sqlite.specs.Effect.{Database};
 ghost use Rattle.sqlite.specs.declared.error.Error.{Error};
 ghost use Rattle.sqlite.specs.declared.error.ErrorCode.{ErrorCode};
 ghost use Rattle.sqlite.specs.State.{HasCleanDisk, Survives};
 ghost use Rattle.sqlite.specs.View.{doubt};
 ghost use Rattle.sqlite.specs.Held.{state};
-ghost use Rattle.scim_store_tables.specs.Reading.{Rests, Spares, HasTables};
-ghost use Rattle.scim_store_tables.specs.Whole.{Is};
+ghost use Rattle.scim_shelf.specs.Caches.{HasCached};
+ghost use Rattle.scim_store_tables.specs.Reading.{Rests, Spares, HasTables, shown};
+ghost use Rattle.scim_store_tables.specs.Whole.{AreRowsOf, Is};
 ghost use Rattle.scim_store_tables.specs.declared.database_kinds.DatabaseKind.{DatabaseKind};
 ghost use Rattle.scim_store.specs.Damage.{AreOrdered, Judges};
 ghost use Rattle.scim_store.specs.Opening as spec;
 
 use crate::damage::{Judged, ResourceRows, judge};
+use crate::passing::show_sound;
 use scim_cell::Id;
+use scim_shelf::CacheContents;
 use scim_store_rows::count_audit;
 use scim_store_tables::{DatabaseKind, TableRows, read_tables};
 use scim_text::NoMemory;
@@ -38,24 +41,54 @@ pub(crate) enum Examined {
     Foreign,
 }
 
-/// Tests the rows of resources, and frees them. Fails only with `OutOfMemory`, if memory runs out.
-fn judge_rows(alloc: Global, base: &str, rows: TableRows) -> Result<Judged, Error>
-    ensures judged { AreOrdered (spec.resource_tables rows)
-        → IfOk result (Judges base.now (spec.resource_tables rows)) }
-    ensures memory { IfErr result (λ e. e ≡ Error.SqliteFailure ErrorCode.OutOfMemory) }
+/// Returns the rows of resources that were read.
+fn resource_rows(rows: TableRows) -> ResourceRows
+    ensures { result ≡ spec.resource_tables rows }
 {
     let TableRows {
         resources,
         names,
         members,
     } = rows;
-    let tables = ResourceRows {
+    ResourceRows {
         resources,
         names,
         members,
-    };
-    match judge(alloc, base, &tables) {
+    }
+}
+
+/// Tests the rows of resources. Fails only with `OutOfMemory`, if memory runs out.
+fn judge_rows(alloc: Global, base: &str, tables: &ResourceRows) -> Result<Judged, Error>
+    ensures judged { AreOrdered tables.now → IfOk result (Judges base.now tables.now) }
+    ensures memory { IfErr result (λ e. e ≡ Error.SqliteFailure ErrorCode.OutOfMemory) }
+{
+    match judge(alloc, base, tables) {
         Ok(judged) => Ok(judged),
+        Err(NoMemory) => Err(Error::SqliteFailure(ErrorCode::OutOfMemory)),
+    }
+}
+
+/// Tests the rows of resources, and frees them. If they are valid, `contents` copies the resources; if it
+/// can't copy them in the same pass, it copies nothing. Fails only with `OutOfMemory`, if memory runs out.
+fn judge_and_copy(
+    alloc: Global,
+    base: &str,
+    rows: TableRows,
+    contents: &mut CacheContents,
+) -> Result<Judged, Error>
+    ensures judged { AreOrdered (spec.resource_tables rows)
+        → IfOk result (Judges base.now (spec.resource_tables rows)) }
+    ensures copied { HasCached [] contents.old → OnOk result ((db : Database)
+        → AreRowsOf (shown db) rows → spec.HasCopied base.now db contents.new) }
+    ensures memory { IfErr result (λ e. e ≡ Error.SqliteFailure ErrorCode.OutOfMemory) }
+{
+    let tables = resource_rows(rows);
+    match show_sound(alloc, base, &tables, contents) {
+        Ok(true) => Ok(Judged::Sound),
+        Ok(false) => {
+            *contents = CacheContents::none();
+            judge_rows(alloc, base, &tables)
+        }
         Err(NoMemory) => Err(Error::SqliteFailure(ErrorCode::OutOfMemory)),
     }
 }
@@ -72,12 +105,13 @@ fn of_count(count: Option<u64>) -> Examined
 }
 
 /// Examines the tables whose rows of resources these are: first these rows, and if they are valid the audit
-/// rows, one at a time. Fails with the database's error, or with `OutOfMemory` if memory runs out.
+/// rows, one at a time. `contents` copies the resources of a valid store, or nothing. Fails with the database's error, or with `OutOfMemory` if memory runs out.
 fn examine_rows<S: Alter>(
     conn: &mut Connection<S>,
     alloc: Global,
     base: &str,
     rows: TableRows,
+    contents: &mut CacheContents,
 ) -> Result<Examined, Error>
     ensures mode { conn.old.in_transaction ≡ false → conn.new.in_transaction ≡ false }
     ensures spares { Spares (state S.Store conn.old) (state S.Store conn.new) }
@@ -86,8 +120,10 @@ fn examine_rows<S: Alter>(
         (state S.Store conn.old) (state S.Store conn.new)) }
     ensures rests { HasCleanDisk (state S.Store conn.new) → HasTables (state S.Store conn.old)
         → OnErr result (Rests (state S.Store conn.old) (state S.Store conn.new)) }
+    ensures copied { HasCached [] contents.old → OnOk result ((db : Database)
+        → AreRowsOf (shown db) rows → spec.HasCopied base.now db contents.new) }
 {
-    match judge_rows(alloc, base, rows)? {
+    match judge_and_copy(alloc, base, rows, contents)? {
         Judged::Sound => Ok(of_count(count_audit(conn, alloc)?)),
         Judged::Damaged(id) => Ok(Examined::Damaged(id)),
         Judged::Foreign => Ok(Examined::Foreign),
@@ -101,7 +137,8 @@ fn examine_altered(alloc: Global, base: &str, rows: TableRows) -> Result<Examine
         → spec.IsFor base.now db it) }
     ensures memory { IfErr result (λ e. e ≡ Error.SqliteFailure ErrorCode.OutOfMemory) }
 {
-    Ok(of_altered(judge_rows(alloc, base, rows)?))
+    let tables = resource_rows(rows);
+    Ok(of_altered(judge_rows(alloc, base, &tables)?))
 }
 
 /// Returns the result for tables with further rows of `setting`, whose rows of resources have this result.
@@ -116,7 +153,7 @@ fn of_altered(judged: Judged) -> Examined
 
 /// Examines a database as a store of resources with locations below the base URI. Reads all rows, in time
 /// nearly linear in their number. Holds the rows of resources until they are examined, and one audit row at a
-/// time.
+/// time. `contents` copies the resources of a valid store in the same pass, or nothing.
 ///
 /// Fails with the database's error, or with `OutOfMemory` if memory runs out. Also fails if a key isn't a
 /// number. Then the connection is closed, or its database is unchanged or as the last commit left it.
@@ -124,6 +161,7 @@ pub(crate) fn examine<S: Alter>(
     conn: &mut Connection<S>,
     alloc: Global,
     base: &str,
+    contents: &mut CacheContents,
 ) -> Result<Examined, Error>
     ensures mode { conn.old.in_transaction ≡ false → conn.new.in_transaction ≡ false }
     ensures clean { doubt (state S.Store conn.old).is_clean
@@ -133,6 +171,9 @@ pub(crate) fn examine<S: Alter>(
         → IfOk result (spec.Examines base.now (state S.Store conn.old) (state S.Store conn.new)) }
     ensures opened { HasCleanDisk (state S.Store conn.new)
         → IfOk result (λ it. spec.IsOpenIf it (state S.Store conn.old)) }
+    ensures copied { HasCleanDisk (state S.Store conn.new) → HasCached [] contents.old
+        → IfOk result (λ it. spec.HasCopiedIf it base.now (state S.Store conn.old).now
+        contents.new) }
     ensures rests { HasCleanDisk (state S.Store conn.new)
         → OnErr result (Rests (state S.Store conn.old) (state S.Store conn.new)) }
 {
@@ -141,6 +182,6 @@ pub(crate) fn examine<S: Alter>(
         DatabaseKind::WrongVersion => Ok(Examined::WrongVersion),
         DatabaseKind::Foreign => Ok(Examined::Foreign),
         DatabaseKind::Altered(rows) => examine_altered(alloc, base, rows),
-        DatabaseKind::Tables(rows) => examine_rows(conn, alloc, base, rows),
+        DatabaseKind::Tables(rows) => examine_rows(conn, alloc, base, rows, contents),
     }
 }

@@ -9,6 +9,7 @@ mod damage;
 mod edits;
 mod examining;
 mod importing;
+mod passing;
 mod row_owners;
 mod sql_shelf;
 mod transactions;

@@ -1,6 +1,6 @@
 //! A shelf over the tables of a database.
 
-ghost use Rattle.std.specs.Prelude.{◌≡◌, ◌≢◌, ◌<◌, ◌≤◌, ◌+◌, ℕ, List, Ok, Err, IfOk, IfErr, OnOk, OnErr, IsErr, IsTrue, find, filter, length, false};
+ghost use Rattle.std.specs.Prelude.{◌≡◌, ◌≢◌, ◌<◌, ◌≤◌, ◌+◌, [], ℕ, List, Ok, Err, IfOk, IfErr, OnOk, OnErr, IsErr, IsTrue, find, filter, length, false};
 ghost use Rattle.std.specs.List.{FoldsTo};
 ghost use Rattle.std.specs.Option.{option_copied};
 ghost use Rattle.sqlite.specs.Effect.{Database};
@@ -12,6 +12,7 @@ ghost use Rattle.scim_text.specs.declared.memory.Failed.{Failed};
 ghost use Rattle.scim_shelf.specs.declared.faults.ShelfFault.{ShelfFault};
 ghost use Rattle.scim_cell.specs.Kinds.{of_kind};
 ghost use Rattle.scim_value.specs.Uniqueness.{name_of};
+ghost use Rattle.scim_shelf.specs.Caches.{HasCached};
 ghost use Rattle.scim_shelf.specs.Shelves.{Counts, Answers, OnlyReads, ShowsPrefix, Commits, count_after};
 ghost use Rattle.scim_shelf.specs.Stores.{Store, AreKeyed, CanKeep, IsOld, is_at, has_name, is_group_with, last_number, after};
 ghost use Rattle.scim_store_rows.specs.Auditing.{AreRowsFrom};
@@ -29,7 +30,7 @@ use crate::examining::{Examined, examine};
 use scim_audit::AuditRow;
 use scim_cell::{Id, Text};
 use scim_schema::Kind;
-use scim_shelf::{Change, Shelf, ShelfFault, Visitor, show_all};
+use scim_shelf::{CacheContents, Change, Shelf, ShelfFault, Visitor, show_all};
 use scim_store_rows::{
     LAST_NUMBER, find_by_id, find_groups_with, find_owner_of_name, read_audit_rows, walk,
 };
@@ -157,6 +158,10 @@ impl<S: Alter> SqlShelf<S> {
     /// their number. The audit rows are read one at a time, and all other rows are held until they are
     /// checked.
     ///
+    /// `contents` copies the resources of a valid store while they are checked, for
+    /// [`scim_shelf::CachedShelf::with_contents`]. It copies nothing if memory runs out for the copies or the
+    /// database was empty.
+    ///
     /// Fails with `WrongVersion` if the tables are of another version, with `Damaged` if an id has rows, but
     /// not exactly the rows of one valid resource, and with `Store` if the database belongs to another
     /// program, or if its tables don't hold a valid store for another reason. Fails with `Device` if the
@@ -168,6 +173,7 @@ impl<S: Alter> SqlShelf<S> {
         alloc: Global,
         connection: Connection<S>,
         base: &str,
+        contents: &mut CacheContents,
     ) -> Result<SqlShelf<S>, (OpenFault, Connection<S>)>
         requires { connection.in_transaction ≡ false }
         ensures base { IfOk result (λ shelf. base_of shelf ≡ base.now) }
@@ -175,6 +181,9 @@ impl<S: Alter> SqlShelf<S> {
         ensures opened { IfOk result (λ shelf. HasCleanDisk (state S.Store (connection_of shelf))
             → (store : Store) × HasOpened base.now (state S.Store connection).now
             (state S.Store (connection_of shelf)) (rows_of shelf) store) }
+        ensures copied { HasCached [] contents.old → IfOk result (λ shelf. (store : Store)
+            → ⟦<SqlShelf<S> as Shelf>⟧.stands shelf store
+            → ⟦<SqlShelf<S> as Shelf>⟧.is_honest shelf → HasCached store.resources contents.new) }
         ensures refused { IfErr result (λ e. HasCleanDisk (state S.Store e.1)
             → Refuses base.now (state S.Store connection).now e.0) }
         ensures rests { IfErr result (λ e. HasCleanDisk (state S.Store e.1)
@@ -190,12 +199,15 @@ impl<S: Alter> SqlShelf<S> {
             (state S.Store e.1) (LeavesBegun base.now (state S.Store connection))) }
     {
         let mut connection = connection;
-        let examined = match examine(&mut connection, alloc, base) {
+        let examined = match examine(&mut connection, alloc, base, contents) {
             Ok(examined) => examined,
             Err(error) => return Err((open_fault_of(&error), connection)),
         };
         match examined {
-            Examined::Empty => SqlShelf::begin(alloc, connection, base),
+            Examined::Empty => {
+                *contents = CacheContents::none();
+                SqlShelf::begin(alloc, connection, base)
+            }
             Examined::Stands(rows) => SqlShelf::over(alloc, connection, base, rows),
             Examined::WrongVersion => Err((OpenFault::WrongVersion, connection)),
             Examined::Damaged(id) => Err((OpenFault::Damaged(id), connection)),

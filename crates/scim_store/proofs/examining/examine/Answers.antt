@@ -1,8 +1,8 @@
 use Rattle.std.proofs.Common.{subst}
-use Rattle.std.proofs.lemmas.Result.{IfOk-weaker}
+use Rattle.std.proofs.lemmas.Result.{IfOk-weaker, on_ok_weaker}
 use Rattle.sqlite.specs.Held.{state}
 use Rattle.scim_store_tables.specs.Whole.{IsReading}
-use Rattle.scim_store.proofs.OpenLemmas.{other_examined, was_read, rows_examined, rows_survive, altered_opened, any_opened}
+use Rattle.scim_store.proofs.OpenLemmas.{other_examined, was_read, rows_examined, rows_survive, tables_rows, altered_opened, any_opened, any_copied, none_copied}
 use Rattle.scim_store_tables.proofs.Facts.{err_behind}
 use Rattle.scim_store.proofs.examining.examine.Goals as goal
 
@@ -48,6 +48,22 @@ returns-in-Tables-clause-opened g c clean =
     let new = state g.S.Store c.examine_rows.new.conn in
     let was = was_read old mid new _ c.in-Tables.rows c.in-Tables.is c.in_ok-read_tables.ensures.opened c.in_ok-read_tables.ensures.read c.examine_rows.ensures.spares.clean clean in
     any_opened c.examine_rows.result old was.opened
+
+pub returns-in-Altered-clause-copied : goal.returns-in-Altered-clause-copied
+returns-in-Altered-clause-copied g c clean = λ _.
+    (let old = state g.S.Store c.args.conn.now in
+    let new = state g.S.Store c.read_tables.new.conn in
+    let reading = subst (IsReading old new) c.in-Altered.is (c.in_ok-read_tables.ensures.read clean) in
+    none_copied c.args.base.now old.now c.in-Altered.rows c.examine_altered.result c.args.contents.now reading.is c.examine_altered.ensures.examined)
+
+pub returns-in-Tables-clause-copied : goal.returns-in-Tables-clause-copied
+returns-in-Tables-clause-copied g c clean = λ empty.
+    (let old = state g.S.Store c.args.conn.now in
+    let mid = state g.S.Store c.read_tables.new.conn in
+    let new = state g.S.Store c.examine_rows.new.conn in
+    let was = was_read old mid new _ c.in-Tables.rows c.in-Tables.is c.in_ok-read_tables.ensures.opened c.in_ok-read_tables.ensures.read c.examine_rows.ensures.spares.clean clean in
+    any_copied c.examine_rows.result c.args.base.now old.now c.examine_rows.new.contents
+    (on_ok_weaker c.examine_rows.result (λ copied. copied old.now (tables_rows old.now c.in-Tables.rows was.reading.is).1) (c.examine_rows.ensures.copied empty)))
 
 pub returns-in-Tables-clause-rests : goal.returns-in-Tables-clause-rests
 returns-in-Tables-clause-rests g c clean =

@@ -1,12 +1,12 @@
-use Rattle.std.proofs.Common.{subst, sym, IsTrue}
+use Rattle.std.proofs.Common.{subst, sym, ap, IsTrue}
 use Rattle.std.proofs.lemmas.Result.{IfOk-weaker, IfErr-weaker}
 use Rattle.sqlite.specs.Held.{state}
 use Rattle.sqlite.specs.State.{HasCleanDisk, Survives}
 use Rattle.scim_store_tables.specs.Reading.{Rests}
 use Rattle.scim_store_tables.proofs.Facts.{if_both}
-use Rattle.scim_store.specs.Opening.{IsFor, IsOpenIf, Examines}
+use Rattle.scim_store.specs.Opening.{IsFor, IsOpenIf, HasCopiedIf, Examines}
 use Rattle.scim_store.specs.Shelves.{LeavesBegun}
-use Rattle.scim_store.proofs.OpenLemmas.{opened_over, opened_begun, rests_untouched, untouched_survives, begun_survives}
+use Rattle.scim_store.proofs.OpenLemmas.{opened_over, opened_begun, copied_over, rests_untouched, untouched_survives, begun_survives}
 use Rattle.scim_store.proofs.sql_shelf.SqlShelf.open.Goals as goal
 
 pub returns-in-Err-clause-refused : goal.returns-in-Err-clause-refused
@@ -31,6 +31,18 @@ returns-in-Stands-clause-opened g c =
     let opened : IsTrue old.is_open = subst (λ it. IsOpenIf it old) c.in-Stands.is (c.in-Ok.ensures.opened (kept clean).0) in
     let still = subst (λ conn. IsTrue (state g.S.Store conn).is_open) (sym same) (told.untouched.unchanged opened).0.is_open in
     opened_over c.args.base.now old mid (state g.S.Store shelf.connection) c.in-Stands.rows shelf.rows told still (kept clean).1)) c.over.ensures.same c.over.ensures.kept
+
+pub returns-in-Stands-clause-copied : goal.returns-in-Stands-clause-copied
+returns-in-Stands-clause-copied g c = λ empty.
+    (let base = c.args.base.now in
+    let old = state g.S.Store c.args.connection in
+    let mid = state g.S.Store c.examine.new.conn in
+    if_both c.over.result _ _ _ (λ shelf same own store kept honest.
+    (let clean = subst (λ conn. HasCleanDisk (state g.S.Store conn)) same honest in
+    let told = subst (Examines base old mid) c.in-Stands.is (c.in-Ok.ensures.examined clean) in
+    let opened : IsTrue old.is_open = subst (λ it. IsOpenIf it old) c.in-Stands.is (c.in-Ok.ensures.opened clean) in
+    let copied = subst (λ it. HasCopiedIf it base old.now c.examine.new.contents) c.in-Stands.is (c.in-Ok.ensures.copied clean empty) in
+    copied_over base shelf.base old mid (state g.S.Store shelf.connection) c.in-Stands.rows shelf.rows c.examine.new.contents store own told opened (ap (state g.S.Store) same) copied honest kept)) c.over.ensures.same c.over.ensures.base)
 
 pub returns-in-Stands-clause-refused : goal.returns-in-Stands-clause-refused
 returns-in-Stands-clause-refused g c = IfErr-weaker c.over.result _ _ (λ e refused _. refused c.args.base.now (state g.S.Store c.args.connection).now) c.over.ensures.refused
