@@ -7,7 +7,7 @@ use Rattle.std.proofs.lemmas.List.Elements.{All-nil, All-cons}
 use Rattle.std.proofs.lemmas.List.Sorted.{IsPermutation-refl, IsPermutation-cons, IsPermutation-middle, IsPermutation-trans, IsPermutation-sym, IsPermutation-map, All-permutation}
 use Rattle.sqlite_trees.proofs.ListLemmas.{IsPermutation-same, IsPermutation-flat_map, map-map, pull_back}
 use Rattle.sqlite.specs.Effect.{Database}
-use Rattle.sqlite.specs.State.{State, HasCleanDisk, Survives}
+use Rattle.sqlite.specs.State.{State, HasCleanDisk, IsLive, Survives}
 use Rattle.sqlite.specs.Tree.{Trees}
 use Rattle.sqlite.specs.Held.{Held, state}
 use Rattle.sqlite.proofs.Callers.{survives_begin}
@@ -27,6 +27,7 @@ use Rattle.scim_store.specs.Edits.{rows_of_names, rows_of_members, rows_of_docum
 use Rattle.scim_store.specs.Importing.{HoldRowsOf, Fills, LeavesImported, HasImported}
 use Rattle.scim_store_rows.specs.Stands.{Entry, StandsFor, IsEntry, lists_of, resource_row, name_row, name_rows, member_rows}
 use Rattle.scim_store.proofs.RowLemmas.{reordered}
+use Rattle.scim_store.proofs.NewStoreLemmas.{holds_new}
 use Rattle.scim_store.proofs.StandLemmas.{document_rows, document_utf8}
 
 -- ---- no rows, and more
@@ -101,10 +102,11 @@ stands_new base cs db store hold new =
     }
 
 module _ (base : List ℕ) (cs : List Content) (old new : State) (empty : old.now.schema ≡ no_schema) (below : All (HasBase base) cs) where
-  pub import_made : Became old new (Fills cs) → HasImported base cs old new
-  import_made became =
+  pub import_made : IsLive new → Became old new (Fills cs) → HasImported base cs old new
+  import_made live became =
       let hold = became.changed empty base below in
-      record { was_empty = empty; is_open = became.is_open; settled = became.settled; rows = hold; stands = λ store is. stands_new base cs new.now store hold is }
+      let made = holds_new base cs new.now (live became.is_open).0 hold in
+      record { was_empty = empty; is_open = became.is_open; settled = became.settled; store = made.0; is_new = made.1; stands = stands_new base cs new.now made.0 hold made.1 }
 
   -- the law is the store's: what a crash leaves of an open one is its last commit
   pub import_lasts : ((trees : Trees) → IsTrue new.is_open → new.may_leave trees → trees ≡ new.committed.trees) → Became old new (Fills cs) → (trees : Trees) → new.may_leave trees → LeavesImported base cs old trees

@@ -18,4 +18,5 @@ pub mod ApartLemmas
 pub mod PassLemmas
 pub mod OpenLemmas
 pub mod ShelfLemmas
+pub mod NewStoreLemmas
 pub mod ImportLemmas

@@ -29,11 +29,11 @@ abbrev pub LeavesImported : List ℕ → List Content → State → Trees → Ty
 LeavesImported base cs s trees = (s.now.schema ≡ no_schema) × ((db : Database) × (trees ≡ db.trees) × HoldRowsOf base cs db × ((store : Store) → IsNewStore cs store → StandsFor base db store))
 
 -- An import has succeeded: the database was empty, the connection is open and nothing is uncommitted, and the
--- tables hold the rows of exactly these resources. They hold the new store of these resources, if there is one:
--- there is none if two resources have the same id or share a unique name.
+-- tables hold a new store of the resources. So no two of them have the same id or share a unique name.
 pub record HasImported (base : List ℕ) (cs : List Content) (old new : State) : Type 0 where
   pub was_empty : old.now.schema ≡ no_schema
   pub is_open : IsTrue new.is_open
   pub settled : new.now ≡ new.committed
-  pub rows : HoldRowsOf base cs new.now
-  pub stands : (store : Store) → IsNewStore cs store → StandsFor base new.now store
+  pub store : Store
+  pub is_new : IsNewStore cs store
+  pub stands : StandsFor base new.now store

@@ -1,7 +1,7 @@
 //! Imports resources into an empty database.
 
 ghost use Rattle.std.specs.Prelude.{◌≡◌, ◌≢◌, ◌∷◌, ℕ, List, All, false, IfOk, OnOk, OnErr, Err, IsTrue};
-ghost use Rattle.sqlite.specs.State.{HasCleanDisk, Survives};
+ghost use Rattle.sqlite.specs.State.{HasCleanDisk, IsLive, Survives};
 ghost use Rattle.sqlite.specs.Held.{state};
 ghost use Rattle.sqlite.specs.Tree.{Trees};
 ghost use Rattle.scim_cell.specs.Content.{Content};
@@ -144,8 +144,16 @@ fn fill<S: Alter>(
     Ok(())
 }
 
+/// Does nothing. The rows of an open database obey its schema, so no two have the same primary key.
+fn rows_obey_schema<S: Alter>(conn: &Connection<S>)
+    ensures { IsLive (state S.Store conn.now) }
+{
+    let _schema = conn.schema();
+}
+
 /// Creates the tables in a database without tables, indexes and views, and stores these resources, in one
-/// transaction. The audit has no rows. The time is nearly linear in the number of resources.
+/// transaction. The audit has no rows. The time is nearly linear in the number of resources. Returns Ok only
+/// if no two resources have the same id or share a unique name.
 ///
 /// Fails with `OtherBase` if a resource has a location below another base URI, with `NotEmpty` if the
 /// database has a table, an index or a view, with `NoMemory` if memory runs out, or with the database's
@@ -188,5 +196,7 @@ pub fn import<S: Alter>(
     if !is_empty_database(conn) {
         return Err(ImportFault::NotEmpty);
     }
-    fill(conn, alloc, resources)
+    let filled = fill(conn, alloc, resources);
+    rows_obey_schema(conn);
+    filled
 }

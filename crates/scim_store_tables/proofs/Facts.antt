@@ -7,3 +7,4 @@ pub use Rattle.scim_store_tables.proofs.AnswerLemmas.{answered_columns, found_fi
 pub use Rattle.scim_store_tables.proofs.ReadLemmas.{Answered, rows_told, resources_told}
 pub use Rattle.scim_store_tables.proofs.ToldLemmas.{both_unchanged, err_behind}
 pub use Rattle.scim_store_tables.proofs.AskLemmas.{resources_text, asks_resources}
+pub use Rattle.scim_store_tables.proofs.UniqueLemmas.{HaveOwnText, HaveOwnTexts, ids_once, names_once}

@@ -21,7 +21,7 @@ use Rattle.scim_store_tables.proofs.RowidLemmas.{pairs}
 
 -- ---- keys in another order, and alone
 
-keyed_same : (xs ys : List Row) → IsPermutation xs ys → AreKeyed xs → AreKeyed ys
+pub keyed_same : (xs ys : List Row) → IsPermutation xs ys → AreKeyed xs → AreKeyed ys
 keyed_same xs ys same keys = record {
   keyed = all-permutation _ _ _ same keys.keyed;
   once = λ id. (let len = length_permutation _ _ (IsPermutation-filter (has_rowid id) _ _ same) in let o = keys.once id in omega (arith, len, o));

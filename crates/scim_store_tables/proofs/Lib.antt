@@ -15,6 +15,7 @@ pub mod AnswerLemmas
 pub mod OrderLemmas
 pub mod ReadLemmas
 pub mod KeyLemmas
+pub mod UniqueLemmas
 pub mod RiseLemmas
 pub mod ToldLemmas
 pub mod WholeLemmas

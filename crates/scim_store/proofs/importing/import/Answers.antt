@@ -12,21 +12,21 @@ returns-clause-made g c clean =
     let old = state g.S.Store c.args.conn.now in
     let below : All (HasBase c.args.base.now) c.args.resources.now = c.in_ok-are_below.ensures.yes (search rules) in
     let empty : old.now.schema ≡ no_schema = c.is_empty_database.ensures.yes (search rules) in
-    on_ok_weaker c.fill.result (import_made c.args.base.now c.args.resources.now old (state g.S.Store c.fill.new.conn) empty below) (c.fill.ensures.made clean)
+    on_ok_weaker c.fill-filled.result (import_made c.args.base.now c.args.resources.now old (state g.S.Store c.fill-filled.new.conn) empty below c.rows_obey_schema.ensures) (c.fill-filled.ensures.made clean)
 
 pub returns-clause-undone : goal.returns-clause-undone
-returns-clause-undone g c clean = on_err_weaker c.fill.result (rests_undone (state g.S.Store c.args.conn.now) (state g.S.Store c.fill.new.conn)) (c.fill.ensures.undone clean)
+returns-clause-undone g c clean = on_err_weaker c.fill-filled.result (rests_undone (state g.S.Store c.args.conn.now) (state g.S.Store c.fill-filled.new.conn)) (c.fill-filled.ensures.undone clean)
 
 pub returns-clause-crash : goal.returns-clause-crash
 returns-clause-crash g c =
     let old = state g.S.Store c.args.conn.now in
     let below : All (HasBase c.args.base.now) c.args.resources.now = c.in_ok-are_below.ensures.yes (search rules) in
     let empty : old.now.schema ≡ no_schema = c.is_empty_database.ensures.yes (search rules) in
-    import_survives c.args.base.now c.args.resources.now old (state g.S.Store c.fill.new.conn) empty below c.fill.ensures.crash
+    import_survives c.args.base.now c.args.resources.now old (state g.S.Store c.fill-filled.new.conn) empty below c.fill-filled.ensures.crash
 
 pub returns-clause-durable : goal.returns-clause-durable
 returns-clause-durable g c clean =
     let old = state g.S.Store c.args.conn.now in
     let below : All (HasBase c.args.base.now) c.args.resources.now = c.in_ok-are_below.ensures.yes (search rules) in
     let empty : old.now.schema ≡ no_schema = c.is_empty_database.ensures.yes (search rules) in
-    on_ok_weaker c.fill.result (import_lasts c.args.base.now c.args.resources.now old (state g.S.Store c.fill.new.conn) empty below (λ trees opened left. g.met.S.Store.settled c.fill.new.conn.store trees opened left)) (c.fill.ensures.made clean)
+    on_ok_weaker c.fill-filled.result (import_lasts c.args.base.now c.args.resources.now old (state g.S.Store c.fill-filled.new.conn) empty below (λ trees opened left. g.met.S.Store.settled c.fill-filled.new.conn.store trees opened left)) (c.fill-filled.ensures.made clean)
