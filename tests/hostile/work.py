@@ -1,4 +1,4 @@
-"""Messages of one MiB whose work multiplies: steps times values of a list."""
+"""Messages of up to one MiB whose work multiplies: steps times values of a list."""
 import itertools
 import json
 
@@ -7,6 +7,8 @@ from server import GROUP, PATCH_OP, USER, request
 
 MOST_BYTES = 1_048_576
 OPERATIONS = 1_000
+MOST_WORK = 25_000_000
+STEP_WORK = 2_500
 
 
 def spaced(path):
@@ -27,36 +29,48 @@ def keys(paths, value, op="replace"):
     for path in paths:
         room -= len(json.dumps(path)) + len(json.dumps(value, separators=(",", ":"))) + 2
         if room < 0:
-            return body_of([{"op": op, "value": taken}])
+            break
         taken[path] = value
+    return body_of([{"op": op, "value": taken}])
 
 
-def nots(size):
+def within(size, looks):
+    """How many steps of so many looks at each of the values are within the limit on the work of a PATCH."""
+    return MOST_WORK // (looks * size + STEP_WORK)
+
+
+def nots(size, steps=None):
     depth = 30
     paths = (f"emails[{'not(' * depth}value co \"{number}\"{')' * depth}].type" for number in itertools.count())
-    return keys(paths, "w")
+    return keys(itertools.islice(paths, steps), "w")
 
 
-def filters(size):
-    return keys((f'emails[value eq "e{number}"].type' for number in itertools.count()), "w")
+def filters(size, steps=None):
+    paths = (f'emails[value eq "e{number}"].type' for number in itertools.count())
+    return keys(itertools.islice(paths, steps), "w")
 
 
-def same_path(size):
-    return keys(spaced("emails.type"), "w")
+def same_path(size, steps=None):
+    return keys(itertools.islice(spaced("emails.type"), steps), "w")
 
 
-def adds(size):
-    return keys(spaced("emails"), [{"value": f"e{number}"} for number in range(9)], "add")
+def adds(size, steps=None):
+    given = [{"value": f"e{number}"} for number in range(9)]
+    return keys(itertools.islice(spaced("emails"), steps), given, "add")
 
 
-def replaces(size):
+def replaces(size, steps=OPERATIONS):
     return body_of([{"op": "replace", "path": f'emails[value eq "e{number % size}"]', "value": {"type": "w"}}
-                    for number in range(OPERATIONS)])
+                    for number in range(steps)])
 
 
-def removes(size):
-    terms = [" or ".join(f'value eq "{term:02}{step % 10}"' for term in range(48)) for step in range(OPERATIONS)]
+def removes(size, steps=OPERATIONS):
+    terms = [" or ".join(f'value eq "{term:02}{step % 10}"' for term in range(48)) for step in range(steps)]
     return body_of([{"op": "remove", "path": f"members[{text}]"} for text in terms])
+
+
+def removes_one(size, steps=OPERATIONS):
+    return body_of([{"op": "remove", "path": f'members[value eq "x{number}"]'} for number in range(steps)])
 
 
 def added_and_removed(size):
@@ -66,6 +80,7 @@ def added_and_removed(size):
     return body_of(list(itertools.chain.from_iterable(steps)))
 
 
+# Messages with as many steps as fit, most of which are refused for their work.
 MESSAGES = [
     ("keys emails[not(not(.. value co ..", "Users", nots),
     ("keys emails[value eq ..].type", "Users", filters),
@@ -74,6 +89,16 @@ MESSAGES = [
     ("1,000 times replace emails[value eq ..]", "Users", replaces),
     ("1,000 times remove or add an email", "Users", added_and_removed),
     ("1,000 times remove members[48 terms]", "Groups", removes),
+    ("1,000 times remove members[value eq ..]", "Groups", removes_one),
+]
+# The dearest of each form that isn't refused: the looks of a step at each value are those of docs/PROFILE.md.
+WITHIN = [
+    ("within the limit: nots", "Users", lambda size: nots(size, within(size * 6 // 5, 66))),
+    ("within the limit: filters", "Users", lambda size: filters(size, within(size * 6 // 5, 6))),
+    ("within the limit: one path", "Users", lambda size: same_path(size, within(size * 6 // 5, 4))),
+    ("within the limit: adding what is there", "Users", lambda size: adds(size, within(2 * size, 9))),
+    ("within the limit: replace", "Users", lambda size: replaces(size, within(size, 11))),
+    ("within the limit: 48 terms", "Groups", lambda size: removes(size, within(size, 49))),
 ]
 
 
@@ -100,7 +125,7 @@ def patches(lab):
                                  ("writer", {200, 204, 400}, MOST_SECONDS)):
         with lab.server() as server:
             usual = one_patch(lab, server, "Users", plain, client, status)[0]
-        for name, kind, make in MESSAGES:
+        for name, kind, make in MESSAGES + WITHIN:
             with lab.server() as server:
                 yield by_seconds(f"{client}: {name}", usual, *one_patch(lab, server, kind, make, client, status), most)
 
