@@ -6,7 +6,7 @@ use crate::databases::{OverDatabase, base_of, fill, over_new_database};
 use crate::faults::{StoreFault, told_or_fault};
 use case_values::{Case, CaseFault, between, joined, said};
 use scim_schema::Kind;
-use scim_shelf::{Shelf, all_of};
+use scim_shelf::{CacheContents, Shelf, all_of};
 use scim_store::{OpenFault, SqlShelf};
 use scim_store_tables::foreign_object;
 use sqlite::{Alter, Connection};
@@ -33,7 +33,12 @@ impl OverDatabase for Verdict {
         connection: Connection<S>,
     ) -> Result<String, StoreFault> {
         let connection = prepared(case, connection)?;
-        match SqlShelf::open(case.alloc, connection, base_of(case)) {
+        match SqlShelf::open(
+            case.alloc,
+            connection,
+            base_of(case),
+            &mut CacheContents::none(),
+        ) {
             Ok(shelf) => told_of_resources(case.alloc, shelf),
             Err((fault, _connection)) => Ok(fault_text(case.alloc, fault)?),
         }
@@ -75,7 +80,12 @@ impl OverDatabase for Opening {
         connection: Connection<S>,
     ) -> Result<String, StoreFault> {
         let connection = prepared(case, connection)?;
-        match SqlShelf::open(case.alloc, connection, base_of(case)) {
+        match SqlShelf::open(
+            case.alloc,
+            connection,
+            base_of(case),
+            &mut CacheContents::none(),
+        ) {
             Ok(shelf) => told_of_audit(case.alloc, shelf),
             Err((fault, connection)) => Ok(told_of_fault(case.alloc, fault, &connection)?),
         }

@@ -8,7 +8,7 @@ use crate::faults::open_fault;
 use crate::importing::import;
 use scim_command::{AuditOptions, CommandFault, DEFAULT_BASE, ExportOptions, RunFault};
 use scim_policy::Policy;
-use scim_shelf::{CachedShelf, Shelf};
+use scim_shelf::{CacheContents, CachedShelf, Shelf};
 use scim_store::SqlShelf;
 use scim_text::Failed;
 use sqlite::{Alter, Connection};
@@ -44,7 +44,7 @@ impl DatabaseWork for Explaining<'_> {
         connection: Connection<S>,
         writer: &mut W,
     ) -> (Result<(), CommandFault>, Connection<S>) {
-        match open_store(alloc, connection, DEFAULT_BASE) {
+        match open_store(alloc, connection, DEFAULT_BASE, &mut CacheContents::none()) {
             Ok(shelf) => {
                 let mut shelf = shelf;
                 let done = explain(alloc, &self.policy, &mut shelf, &self.question, writer);
@@ -63,7 +63,7 @@ impl DatabaseWork for AuditOptions<'_> {
         connection: Connection<S>,
         writer: &mut W,
     ) -> (Result<(), CommandFault>, Connection<S>) {
-        match open_store(alloc, connection, DEFAULT_BASE) {
+        match open_store(alloc, connection, DEFAULT_BASE, &mut CacheContents::none()) {
             Ok(shelf) => {
                 let mut shelf = shelf;
                 let done = print_audit(alloc, &mut shelf, self.from, self.count, writer);
@@ -82,7 +82,7 @@ impl DatabaseWork for ExportOptions<'_> {
         connection: Connection<S>,
         writer: &mut W,
     ) -> (Result<(), CommandFault>, Connection<S>) {
-        match open_store(alloc, connection, DEFAULT_BASE) {
+        match open_store(alloc, connection, DEFAULT_BASE, &mut CacheContents::none()) {
             Ok(shelf) => {
                 let mut shelf = shelf;
                 let done = export(alloc, &mut shelf, writer);
@@ -110,17 +110,18 @@ impl DatabaseWork for Importing<'_> {
     }
 }
 
-/// Opens the store in a database, with resources located below the base URL.
+/// Opens the store in a database, with resources located below the base URL, which `contents` copies.
 ///
 /// If [`SqlShelf::open`] fails, returns its error, converted to an error of the program, and the connection.
 fn open_store<S: Alter + Drop>(
     alloc: Global,
     connection: Connection<S>,
     base: &str,
+    contents: &mut CacheContents,
 ) -> Result<SqlShelf<S>, (CommandFault, Connection<S>)>
     requires { connection.in_transaction ≡ false }
 {
-    match SqlShelf::open(alloc, connection, base) {
+    match SqlShelf::open(alloc, connection, base, contents) {
         Ok(shelf) => Ok(shelf),
         Err((fault, connection)) => Err((CommandFault::Run(open_fault(fault)), connection)),
     }
@@ -147,9 +148,10 @@ pub fn open_cached<S: Alter + Drop>(
 ) -> Result<CachedShelf<SqlShelf<S>>, (CommandFault, Connection<S>)>
     requires { connection.in_transaction ≡ false }
 {
-    match open_store(alloc, connection, base) {
+    let mut contents = contents_for(alloc, has_cache);
+    match open_store(alloc, connection, base, &mut contents) {
         Ok(shelf) => {
-            let mut shelf = CachedShelf::over(shelf);
+            let mut shelf = CachedShelf::with_contents(shelf, contents);
             match fill_if(alloc, &mut shelf, has_cache) {
                 Ok(()) => Ok(shelf),
                 Err(fault) => Err((fault, shelf.into_lower().into_connection())),
@@ -159,14 +161,24 @@ pub fn open_cached<S: Alter + Drop>(
     }
 }
 
-/// Fills the cache if `has_cache` is true. If memory runs out, the cache is unchanged, and reads go to the
-/// database. Fails with `Database` if the resources can't be read.
+/// Returns what copies the resources for a cache, or copies nothing if `has_cache` is false.
+fn contents_for(alloc: Global, has_cache: bool) -> CacheContents {
+    if has_cache {
+        CacheContents::new(alloc)
+    } else {
+        CacheContents::none()
+    }
+}
+
+/// Fills the cache if `has_cache` is true and it isn't filled yet, as after an empty database was opened. If
+/// memory runs out, the cache is unchanged, and reads go to the database. Fails with `Database` if the
+/// resources can't be read.
 fn fill_if<S: Shelf>(
     alloc: Global,
     shelf: &mut CachedShelf<S>,
     has_cache: bool,
 ) -> Result<(), CommandFault> {
-    if !has_cache {
+    if !has_cache || shelf.is_filled() {
         return Ok(());
     }
     match shelf.fill(alloc) {
