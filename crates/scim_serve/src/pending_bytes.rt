@@ -51,11 +51,12 @@ impl Pending {
         &self.bytes[self.taken..]
     }
 
-    /// Appends bytes. After `NoMemory` the pending bytes are unchanged.
+    /// Appends bytes, and allocates no more than they need. After `NoMemory` the pending bytes are unchanged.
     fn add(&mut self, bytes: &[u8]) -> Result<(), NoMemory>
         ensures ok { OnOk result (self.new ≡ with_more bytes.now self.old) }
         ensures err { OnErr result (self.new ≡ self.old) }
     {
+        self.bytes.reserve_exact(bytes.len())?;
         self.bytes.extend_from_slice(bytes)?;
         Ok(())
     }
