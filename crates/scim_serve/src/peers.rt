@@ -81,7 +81,6 @@ pub trait Peers {
         ensures written { IsTrue is_known → (m : ℕ) → written self.new m ≡ written self.old m }
         ensures takes { IsTrue is_known → (m : ℕ) → takes_all self.new m ≡ true
             → takes_all self.old m ≡ true }
-        ensures closed { IsTrue is_known → is_closed self.new connection ≡ true }
-        ensures others { IsTrue is_known → (m : ℕ) → is_closed self.new m ≡ false
-            → is_closed self.old m ≡ false };
+        ensures closed { IsTrue is_known → (m : ℕ) → is_closed self.new m
+            ≡ (if connection == m then true else is_closed self.old m) };
 }
