@@ -1,1 +1,3 @@
 pub mod Connections
+pub mod Listening
+pub mod OpenConnections

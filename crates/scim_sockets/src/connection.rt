@@ -1,6 +1,6 @@
 //! A connection over a socket, with the state of its reading and writing.
-ghost use Rattle.std.specs.Prelude.{◌≡◌, ◌<◌, ◌≤◌, ◌⊎◌, None, length};
-ghost use Rattle.scim_sockets.specs.Connections.{IsBehind, TakesNothing, IsUnread, FitsIn, weight_of};
+ghost use Rattle.std.specs.Prelude.{◌≡◌, ◌<◌, ◌≤◌, ◌+◌, ◌*◌, ◌^◌, ◌⊎◌, None, length};
+ghost use Rattle.scim_sockets.specs.Connections.{IsBehind, TakesNothing, IsUnread, FitsIn, CountsPiece, IsQuiet, StaysBehind, ContinuesReply, clipped, owed_after, weight_of};
 
 use crate::held_bytes::Held;
 use crate::pieces::{Part, Scan};
@@ -84,7 +84,7 @@ pub(crate) struct Connection {
     taken: u64,
     // The time at which the connection last sent a byte of a message, took bytes, was accepted, or was shut.
     last: Duration,
-    // The number of bytes of the message in hand that were handed on.
+    // The number of bytes that were handed on since the last reply was begun.
     handed: u32,
     // The length of the reply that the connection hasn't taken whole; 0 if there is none.
     owed: u32,
@@ -93,8 +93,18 @@ pub(crate) struct Connection {
 }
 
 /// Returns a number of bytes in 32 bits; the greatest if it doesn't fit.
-fn capped(count: usize) -> u32 {
+fn capped(count: usize) -> u32
+    ensures { result ≡ clipped count }
+{
     u32::try_from(count).unwrap_or(u32::MAX)
+}
+
+/// Returns the weight of a connection with a message and a reply of these lengths.
+fn weight_with(handed: u32, owed: u32) -> u64
+    ensures weight { result ≡ 2 * handed + owed }
+    ensures light { 2 * handed + owed ≤ 2 ^ 34 }
+{
+    2 * u64::from(handed) + u64::from(owed)
 }
 
 impl Connection {
@@ -122,12 +132,17 @@ impl Connection {
         }
     }
 
-    /// Returns the weight of the connection: how many bytes the server holds of its unfinished message and of
-    /// its reply. Not counted are the bytes that were read and not handed on, which are at most one read.
+    /// Returns the weight of the connection: how many bytes the server may have allocated for its unfinished
+    /// message and its reply. The buffer of a message grows by doubling, so it may be twice as long as what it
+    /// holds; that of a reply is as long as the reply.
+    ///
+    /// Not counted are the bytes of the last read, and those of a message that began in the piece that ended the
+    /// one before it.
     pub(crate) fn weight(&self) -> u64
-        ensures { result ≡ weight_of self.now }
+        ensures weight { result ≡ weight_of self.now }
+        ensures light { weight_of self.now ≤ 2 ^ 34 }
     {
-        u64::from(self.handed) + u64::from(self.owed)
+        weight_with(self.handed, self.owed)
     }
 
     /// Returns the place of the client whose requests came last; 0 at first.
@@ -183,7 +198,9 @@ impl Connection {
     /// the connection has taken its replies: a client that has closed its sending side gets them.
     pub(crate) fn turn(&mut self, now: Duration, buffer: &mut [u8]) -> Turn
         ensures fits { FitsIn buffer.new result }
-        ensures behind { IsBehind self.old → IsUnread result × IsBehind self.new }
+        ensures handed { CountsPiece self.old.handed self.new.handed result }
+        ensures quiet { IsBehind self.old → IsQuiet result × (buffer.new ≡ buffer.old) }
+        ensures behind { IsBehind self.old → StaysBehind self.old self.new }
     {
         self.is_waiting = false;
         match self.taking {
@@ -198,7 +215,8 @@ impl Connection {
 
     /// Hands on the next piece of the bytes that the connection holds, or reads if it holds none.
     fn advance(&mut self, now: Duration, buffer: &mut [u8]) -> Turn
-        ensures { FitsIn buffer.new result }
+        ensures fits { FitsIn buffer.new result }
+        ensures handed { CountsPiece self.old.handed self.new.handed result }
     {
         if self.held.is_empty() {
             return self.read(buffer);
@@ -211,7 +229,8 @@ impl Connection {
 
     /// Reads once. Ends the connection at the end of its stream, and if memory runs out.
     fn read(&mut self, buffer: &mut [u8]) -> Turn
-        ensures { FitsIn buffer.new result }
+        ensures fits { FitsIn buffer.new result }
+        ensures handed { CountsPiece self.old.handed self.new.handed result }
     {
         let Some(stream) = &mut self.stream else {
             return Turn::Left;
@@ -234,22 +253,26 @@ impl Connection {
     }
 
     /// Notes that a piece of this many bytes was handed on, before which the stream was in `part` of a message.
-    /// Empty lines between two messages are no sign of life.
-    fn note_piece(&mut self, now: Duration, part: Part, count: usize) {
+    ///
+    /// Empty lines between two messages are no sign of life, but they count: they may be the body of a message
+    /// whose head came in the piece that ended the message before it.
+    fn note_piece(&mut self, now: Duration, part: Part, count: usize)
+        ensures { self.new.handed ≡ clipped (self.old.handed + count) }
+    {
         if part == Part::Between {
             self.began = now;
-            self.handed = 0;
         }
         if self.scan.part() != Part::Between {
             self.last = now;
-            self.handed = self.handed.saturating_add(capped(count));
         }
+        self.handed = self.handed.saturating_add(capped(count));
     }
 
     /// Returns the result of a turn in which the read failed. Ends the connection unless the error is
     /// temporary.
     fn read_failed(&mut self, kind: ErrorKind) -> Turn
-        ensures { IsUnread result }
+        ensures unread { IsUnread result }
+        ensures handed { CountsPiece self.old.handed self.new.handed result }
     {
         match kind {
             ErrorKind::WouldBlock => {
@@ -268,6 +291,10 @@ impl Connection {
     pub(crate) fn write(&mut self, now: Duration, bytes: &[u8]) -> usize
         ensures count { result ≤ length bytes.now }
         ensures less { result < length bytes.now → IsBehind self.new ⊎ TakesNothing self.new }
+        ensures owed { IsBehind self.new
+            → self.new.owed ≡ owed_after self.old.taking self.old.owed (length bytes.now) }
+        ensures whole { 0 < result → result ≡ length bytes.now → self.new.owed ≡ 0 }
+        ensures continues { IsBehind self.old → ContinuesReply self.old self.new }
     {
         if self.is_shut || bytes.is_empty() {
             return 0;
@@ -309,6 +336,7 @@ impl Connection {
     fn begin_reply(&mut self, now: Duration, bytes: &[u8])
         ensures stream { self.new.stream ≡ self.old.stream }
         ensures shut { self.new.is_shut ≡ self.old.is_shut }
+        ensures owed { self.new.owed ≡ clipped (length bytes.now) }
     {
         self.replied = now;
         self.taken = 0;
@@ -324,7 +352,9 @@ impl Connection {
 
     /// Handles a failed write. Ends the connection unless the error is temporary.
     fn write_failed(&mut self, kind: ErrorKind)
-        ensures { IsBehind self.new ⊎ TakesNothing self.new }
+        ensures less { IsBehind self.new ⊎ TakesNothing self.new }
+        ensures owed { IsBehind self.new → self.new.owed ≡ self.old.owed }
+        ensures continues { ContinuesReply self.old self.new }
     {
         match kind {
             ErrorKind::WouldBlock => self.taking = Taking::Less,
@@ -364,6 +394,8 @@ impl Connection {
     pub(crate) fn end(&mut self)
         ensures stream { self.new.stream ≡ None }
         ensures weight { weight_of self.new ≡ 0 }
+        ensures taking { self.new.taking ≡ Taking.All }
+        ensures continues { ContinuesReply self.old self.new }
     {
         self.stream = None;
         self.drop_bytes();
@@ -375,6 +407,7 @@ impl Connection {
     fn drop_bytes(&mut self)
         ensures stream { self.new.stream ≡ self.old.stream }
         ensures weight { weight_of self.new ≡ 0 }
+        ensures continues { ContinuesReply self.old self.new }
     {
         self.held.clear();
         self.handed = 0;

@@ -3,7 +3,7 @@ use crate::connection::Late;
 use std::fmt;
 
 /// The number of connections that the server closed for each reason, since it began. Connections that were
-/// closed since they were silent aren't counted.
+/// closed because they were silent aren't counted.
 #[derive(Clone, Copy, PartialEq, Eq)]
 pub struct Counts {
     /// Connections whose head took too long.

@@ -1,7 +1,9 @@
-//! The open connections, and how many bytes the server holds for all of them.
-ghost use Rattle.std.specs.Prelude.{◌≡◌, ◌+◌, ◌<◌, ◌≤◌, ◌↔◌, IsTrue, length};
+//! The open connections, and how much memory the server may have allocated for all of them.
+ghost use Rattle.std.specs.Prelude.{◌≡◌, ◌+◌, ◌-◌, ◌^◌, ◌<◌, ◌≤◌, ◌⊎◌, ◌↔◌, None, Some, IfSome, IsTrue, length, min};
 ghost use Rattle.std.specs.BTreeMap.{btree_map_len};
-ghost use Rattle.scim_sockets.specs.Connections.{FitsIn};
+ghost use Rattle.scim_sockets.specs.declared.connection.Connection.{Connection};
+ghost use Rattle.scim_sockets.specs.Connections.{FitsIn, IsBehind, IsQuiet, StaysBehind, TakesNothing};
+ghost use Rattle.scim_sockets.specs.OpenConnections.{AreCounted, connection_at, total_weight, ChangesOne, KeepsOthers};
 
 use crate::connection::{Connection, Late, Turn};
 use crate::time_limits::Limits;
@@ -9,39 +11,43 @@ use std::alloc::Global;
 use std::collections::BTreeMap;
 use std::time::Duration;
 
-/// The maximum number of open connections. Further connections wait in the system's queue.
+/// The maximum number of open connections. If another one comes, the connection that has been idle longest
+/// gives way; if none is idle, the new one waits in the system's queue.
 pub(crate) const MOST_OPEN: usize = 1024;
 
 /// The open connections by number, and the sum of their weights.
 #[derive(Drop)]
 pub(crate) struct Open {
     by_number: BTreeMap<u64, Connection>,
-    // The sum of the weights of the connections. It is counted anew before a connection is closed for it.
+    // The number of the next connection.
+    next: u64,
+    // The sum of the weights of the connections.
     total: u64,
-    ghost few: { btree_map_len by_number ≤ 1024 },
+    ghost counted: { AreCounted by_number next total },
 }
 
 impl Open {
-    /// Returns an empty set of connections.
+    /// Returns an empty set of connections. The first connection gets the number 0.
     pub(crate) fn new(alloc: Global) -> Open {
         Open {
             by_number: BTreeMap::new(alloc),
+            next: 0,
             total: 0,
         }
     }
 
     /// Returns the sum of the weights of the connections.
-    pub(crate) fn total(&self) -> u64 {
+    pub(crate) fn total(&self) -> u64
+        ensures { result ≡ total_weight self.now.by_number }
+    {
         self.total
     }
 
-    /// Counts the sum of the weights anew.
-    pub(crate) fn count_total(&mut self) {
-        let mut total: u64 = 0;
-        for connection in self.by_number.values() {
-            total = total.saturating_add(connection.weight());
-        }
-        self.total = total;
+    /// Returns how many numbers were given to connections.
+    pub(crate) fn given(&self) -> u64
+        ensures { result ≡ self.now.next }
+    {
+        self.next
     }
 
     /// Whether no connection is open.
@@ -58,36 +64,66 @@ impl Open {
         self.by_number.len() >= MOST_OPEN
     }
 
+    /// Returns a number that was given to no connection before; `None` after 2^64 - 1 numbers.
+    pub(crate) fn new_number(&mut self) -> Option<u64>
+        ensures connections { self.new.by_number ≡ self.old.by_number }
+        ensures next { IfSome result (λ n. (n ≡ self.old.next) × (self.new.next ≡ n + 1)) }
+        ensures absent { IfSome result (λ n. connection_at self.old.by_number n ≡ None) }
+    {
+        let number = self.next;
+        self.next = number.checked_add(1)?;
+        Some(number)
+    }
+
     /// Adds a connection, in place of one that has the same number. Returns false and drops it if memory runs
     /// out.
     pub(crate) fn insert(&mut self, number: u64, connection: Connection) -> bool
         requires room { btree_map_len self.old.by_number < 1024 }
+        requires given { number < self.old.next }
+        ensures others { KeepsOthers number self.old.by_number self.new.by_number }
+        ensures next { self.new.next ≡ self.old.next }
     {
         self.remove(number);
-        self.by_number.insert(number, connection).is_ok()
+        let weight = connection.weight();
+        match self.by_number.insert(number, connection) {
+            Ok(_) => {
+                self.total = recount(self.total, 0, weight);
+                true
+            }
+            Err(_) => false,
+        }
     }
 
     /// Removes the connection with the number, if there is one, and returns the place of its client; 0 if there
     /// is none.
     pub(crate) fn remove(&mut self, number: u64) -> usize
-        ensures { btree_map_len self.new.by_number ≤ btree_map_len self.old.by_number }
+        ensures less { btree_map_len self.new.by_number ≤ btree_map_len self.old.by_number }
+        ensures gone { connection_at self.new.by_number number ≡ None }
+        ensures others { KeepsOthers number self.old.by_number self.new.by_number }
+        ensures next { self.new.next ≡ self.old.next }
     {
         let Some(connection) = self.by_number.remove(&number) else {
             return 0;
         };
-        self.total = self.total.saturating_sub(connection.weight());
+        self.total = recount(self.total, connection.weight(), 0);
         connection.client()
     }
 
     /// Records a report of the system, as [`Connection::note`] does.
-    pub(crate) fn note(&mut self, number: u64, can_read: bool, can_write: bool) {
+    pub(crate) fn note(&mut self, number: u64, can_read: bool, can_write: bool)
+        ensures changes { ChangesOne number self.old.by_number self.new.by_number }
+        ensures next { self.new.next ≡ self.old.next }
+    {
         if let Some(connection) = self.by_number.get_mut(&number) {
             connection.note(can_read, can_write);
         }
     }
 
     /// Calls [`Connection::begins_to_wait`]; returns false if no connection has the number.
-    pub(crate) fn begins_to_wait(&mut self, number: u64) -> bool {
+    pub(crate) fn begins_to_wait(&mut self, number: u64) -> bool
+        ensures changes { ChangesOne number self.old.by_number self.new.by_number }
+        ensures next { self.new.next ≡ self.old.next }
+    {
         match self.by_number.get_mut(&number) {
             Some(connection) => connection.begins_to_wait(),
             None => false,
@@ -97,45 +133,67 @@ impl Open {
     /// Does the next work of the connection with the number, as [`Connection::turn`] does. Doesn't remove a
     /// connection that has ended.
     pub(crate) fn turn(&mut self, number: u64, now: Duration, buffer: &mut [u8]) -> Turn
-        ensures { FitsIn buffer.new result }
+        ensures fits { FitsIn buffer.new result }
+        ensures quiet { (old : Connection)
+            → connection_at self.old.by_number number ≡ Some old → IsBehind old
+            → IsQuiet result × (buffer.new ≡ buffer.old) }
+        ensures behind { (old : Connection)
+            → connection_at self.old.by_number number ≡ Some old → IsBehind old
+            → IfSome (connection_at self.new.by_number number) (StaysBehind old) }
+        ensures changes { ChangesOne number self.old.by_number self.new.by_number }
+        ensures next { self.new.next ≡ self.old.next }
     {
         let Some(connection) = self.by_number.get_mut(&number) else {
             return Turn::Nothing;
         };
         let before = connection.weight();
         let turn = connection.turn(now, buffer);
-        self.total = recount(self.total, before, connection);
+        self.total = recount(self.total, before, connection.weight());
         turn
     }
 
     /// Offers bytes to a connection, and returns the length of the prefix that it took.
     pub(crate) fn write(&mut self, number: u64, now: Duration, bytes: &[u8]) -> usize
         ensures count { result ≤ length bytes.now }
+        ensures less { result < length bytes.now
+            → IfSome (connection_at self.new.by_number number) (λ c.
+            IsBehind c ⊎ TakesNothing c) }
+        ensures changes { ChangesOne number self.old.by_number self.new.by_number }
+        ensures next { self.new.next ≡ self.old.next }
     {
         let Some(connection) = self.by_number.get_mut(&number) else {
             return 0;
         };
         let before = connection.weight();
         let count = connection.write(now, bytes);
-        self.total = recount(self.total, before, connection);
+        self.total = recount(self.total, before, connection.weight());
         count
     }
 
     /// Shuts a connection, as [`Connection::shut`] does.
-    pub(crate) fn shut(&mut self, number: u64, now: Duration) {
+    pub(crate) fn shut(&mut self, number: u64, now: Duration)
+        ensures shut { IfSome (connection_at self.new.by_number number) TakesNothing }
+        ensures changes { ChangesOne number self.old.by_number self.new.by_number }
+        ensures next { self.new.next ≡ self.old.next }
+    {
         if let Some(connection) = self.by_number.get_mut(&number) {
             let before = connection.weight();
             connection.shut(now);
-            self.total = recount(self.total, before, connection);
+            self.total = recount(self.total, before, connection.weight());
         }
     }
 
     /// Drops the socket of a connection.
-    pub(crate) fn end(&mut self, number: u64) {
+    pub(crate) fn end(&mut self, number: u64)
+        ensures ended { IfSome (connection_at self.new.by_number number) (λ c.
+            c.stream ≡ None) }
+        ensures changes { ChangesOne number self.old.by_number self.new.by_number }
+        ensures next { self.new.next ≡ self.old.next }
+    {
         if let Some(connection) = self.by_number.get_mut(&number) {
             let before = connection.weight();
             connection.end();
-            self.total = recount(self.total, before, connection);
+            self.total = recount(self.total, before, 0);
         }
     }
 
@@ -148,7 +206,10 @@ impl Open {
     }
 
     /// Sets the place of the client of a connection.
-    pub(crate) fn set_client(&mut self, number: u64, client: usize) {
+    pub(crate) fn set_client(&mut self, number: u64, client: usize)
+        ensures changes { ChangesOne number self.old.by_number self.new.by_number }
+        ensures next { self.new.next ≡ self.old.next }
+    {
         if let Some(connection) = self.by_number.get_mut(&number) {
             connection.set_client(client);
         }
@@ -199,9 +260,9 @@ impl Open {
     }
 }
 
-/// Returns the total after the weight of one of the connections changed from `before`.
-fn recount(total: u64, before: u64, connection: &Connection) -> u64 {
-    total
-        .saturating_sub(before)
-        .saturating_add(connection.weight())
+/// Returns the total after the weight of one of the connections changed from `before` to `after`.
+fn recount(total: u64, before: u64, after: u64) -> u64
+    ensures { result ≡ min (total - before + after) (2 ^ 64 - 1) }
+{
+    total.saturating_sub(before).saturating_add(after)
 }

@@ -1,7 +1,8 @@
 //! The system's sockets as the connections of a server.
-ghost use Rattle.std.specs.Prelude.{◌≤◌, ◌<◌, ◌≡◌, length, take, IsTrue, IfOk, IfNone};
+ghost use Rattle.std.specs.Prelude.{◌≤◌, ◌<◌, ◌≡◌, length, take, IsTrue, IfOk, IfSome, IfNone};
 ghost use Rattle.std.specs.BTreeMap.{btree_map_len};
-ghost use Rattle.scim_sockets.specs.Connections.{FitsIn, AreAccepted, IsOver};
+ghost use Rattle.scim_sockets.specs.Connections.{FitsIn};
+ghost use Rattle.scim_sockets.specs.Listening.{AreAccepted, IsLoopback, IsOver, Joins, Reports};
 
 use crate::connection::{Connection, Turn};
 use crate::counts::{Counts, Log};
@@ -40,10 +41,17 @@ struct Listening {
     port: u16,
 }
 
+/// Returns the loopback address with a port.
+fn loopback(port: u16) -> SocketAddr
+    ensures { IsLoopback port result }
+{
+    SocketAddr::from((Ipv4Addr::LOCALHOST, port))
+}
+
 /// Listens on a port of the loopback address; on a free port if `port` is 0.
 fn listen_at(rt: &impl Net, port: u16) -> io::Result<Listening> {
     let poll = Poll::new(rt)?;
-    let mut listener = TcpListener::bind(rt, SocketAddr::from((Ipv4Addr::LOCALHOST, port)))?;
+    let mut listener = TcpListener::bind(rt, loopback(port))?;
     poll.registry()
         .register(&mut listener, LISTENER, Interest::READABLE)?;
     let port = listener.local_addr()?.port();
@@ -105,7 +113,9 @@ impl Room {
 }
 
 /// Returns an event of a connection that joins or leaves. Such an event has an unused stamp.
-fn unstamped(connection: u64, kind: OwnedEventKind) -> PeerEvent {
+fn unstamped(connection: u64, kind: OwnedEventKind) -> PeerEvent
+    ensures { Reports connection kind result }
+{
     PeerEvent::Event(OwnedEvent {
         connection,
         stamp: Stamp::unused(),
@@ -134,8 +144,6 @@ pub struct Sockets<'r, R: Clock + RandomSource + Log> {
     guest: Option<TcpStream>,
     // The number of queue entries to process until the next poll.
     round: usize,
-    // The number of connections that have joined, which the next connection gets as its number.
-    accepted: u64,
     most: Option<u64>,
     limits: Limits,
     counts: Counts,
@@ -172,7 +180,6 @@ impl<'r, R: Net + Clock + RandomSource + Log> Sockets<'r, R> {
             room,
             guest: None,
             round: 0,
-            accepted: 0,
             most,
             limits: Limits::usual(),
             counts: Counts::new(),
@@ -191,30 +198,30 @@ impl<'r, R: Clock + RandomSource + Log> Sockets<'r, R> {
         self.listening.port
     }
 
-    /// Sets the limits of time; [`Limits::usual`] by default.
+    /// Sets the limits of time and memory; [`Limits::usual`] by default.
     pub fn set_limits(&mut self, limits: Limits) {
         self.limits = limits;
     }
 
-    /// Returns how many connections were closed so far because they were late or gave way.
+    /// Returns how many connections were closed so far, and why.
     pub fn counts(&self) -> Counts {
         self.counts
     }
 
     /// Whether the maximum number of connections was accepted.
     fn has_accepted_all(&self) -> bool
-        ensures { IsTrue result → AreAccepted self.now.most self.now.accepted }
+        ensures { IsTrue result
+            → AreAccepted self.now.most self.now.room.turns.connections.next }
     {
         match self.most {
-            Some(most) => self.accepted >= most,
+            Some(most) => self.room.turns.given() >= most,
             None => false,
         }
     }
 
     /// Whether the maximum number of connections was accepted and no connection is open.
     fn is_over(&self) -> bool
-        ensures { IsTrue result → IsOver self.now.most self.now.accepted
-            (btree_map_len self.now.room.turns.connections.by_number) }
+        ensures { IsTrue result → IsOver self.now.most self.now.room.turns.connections }
     {
         self.has_accepted_all() && self.room.turns.is_empty()
     }
@@ -224,7 +231,9 @@ impl<'r, R: Clock + RandomSource + Log> Sockets<'r, R> {
     ///
     /// If the system fails to accept a connection, for example because too many files are open, the attempt
     /// is repeated after the next poll and after a connection has left.
-    fn accept(&mut self, alloc: Global) -> Option<PeerEvent> {
+    fn accept(&mut self, alloc: Global) -> Option<PeerEvent>
+        ensures { IfSome result (Joins self.old.room.turns.connections) }
+    {
         if self.has_accepted_all() {
             return None;
         }
@@ -239,8 +248,7 @@ impl<'r, R: Clock + RandomSource + Log> Sockets<'r, R> {
 
     /// Returns the guest, or else a connection that is waiting to be accepted, if there is one.
     fn take_stream(&mut self) -> Option<TcpStream>
-        ensures connections { self.new.room.turns.connections ≡ self.old.room.turns.connections }
-        ensures accepted { self.new.accepted ≡ self.old.accepted }
+        ensures { self.new.room.turns.connections ≡ self.old.room.turns.connections }
     {
         if let Some(stream) = self.guest.take() {
             return Some(stream);
@@ -272,13 +280,13 @@ impl<'r, R: Clock + RandomSource + Log> Sockets<'r, R> {
         }
     }
 
-    /// Adds an accepted connection. Drops it without a report if it can't be registered or if memory runs
-    /// out.
+    /// Adds an accepted connection, with the next number. Drops it without a report if it can't be registered,
+    /// if memory runs out, or if 2^64 - 1 numbers were given.
     fn join(&mut self, alloc: Global, mut stream: TcpStream) -> Option<PeerEvent>
         requires room { btree_map_len self.old.room.turns.connections.by_number < 1024 }
+        ensures { IfSome result (Joins self.old.room.turns.connections) }
     {
-        let number = self.accepted;
-        self.accepted = number.saturating_add(1);
+        let number = self.room.turns.new_number()?;
         let both = Interest::READABLE | Interest::WRITABLE;
         let registry = self.listening.poll.registry();
         let is_registered = registry
@@ -379,8 +387,7 @@ impl<'r, R: Clock + RandomSource + Log> Sockets<'r, R> {
     /// all have left.
     fn await_event(&mut self, alloc: Global) -> Result<Option<PeerEvent>, PeersFault>
         ensures { IfOk result (λ told.
-            IfNone told (IsOver self.new.most self.new.accepted
-            (btree_map_len self.new.room.turns.connections.by_number))) }
+            IfNone told (IsOver self.new.most self.new.room.turns.connections)) }
     {
         self.settle()?;
         for _ in 0..u64::MAX {

@@ -1,5 +1,6 @@
 //! The stamps of events: the current time and a random id.
-ghost use Rattle.std.specs.Prelude.{◌≡◌, min, IfOk};
+ghost use Rattle.std.specs.Prelude.{◌≡◌, ◌≤◌, ◌/◌, min, IfOk};
+ghost use Rattle.std.specs.Time.{system_time_nanos};
 ghost use Rattle.scim_text.specs.Moments.{last_moment};
 ghost use Rattle.uuid.specs.Uuid.{version_num};
 
@@ -31,20 +32,35 @@ fn moment_at(seconds: u64) -> Moment
     }
 }
 
-/// Returns the current time in whole seconds; 1970-01-01T00:00:00Z if the clock shows an earlier time.
-fn present(rt: &impl Clock) -> io::Result<Moment> {
-    match SystemTime::now(rt)?.duration_since(UNIX_EPOCH) {
-        Ok(since) => Ok(moment_at(since.as_secs())),
-        Err(_) => Ok(moment_at(0)),
+/// Returns a time in whole seconds.
+fn moment_of(time: SystemTime) -> Moment
+    ensures { result ≡ min (system_time_nanos time / 1_000_000_000) last_moment }
+{
+    match time.duration_since(UNIX_EPOCH) {
+        Ok(since) => moment_at(since.as_secs()),
+        Err(_) => moment_at(0),
     }
 }
 
-/// Returns a stamp for an event that occurs now. Fails with [`NoStamp`] if the clock or the random source
-/// fails.
-pub(crate) fn stamp_now<R: Clock + RandomSource>(rt: &R) -> Result<Stamp, NoStamp> {
-    let (Ok(moment), Ok(uuid)) = (present(rt), fresh(rt)) else {
+/// Returns the stamp of an event that occurred at a time, with the UUID as the id.
+fn stamp_of(time: SystemTime, uuid: Uuid) -> Stamp
+    ensures moment { result.moment ≡ min (system_time_nanos time / 1_000_000_000) last_moment }
+    ensures first { result.first ≡ uuid }
+{
+    Stamp {
+        moment: moment_of(time),
+        first: id_of(uuid),
+    }
+}
+
+/// Returns a stamp for an event that occurs now, with a random id. Fails with [`NoStamp`] if the clock or the
+/// random source fails.
+pub(crate) fn stamp_now<R: Clock + RandomSource>(rt: &R) -> Result<Stamp, NoStamp>
+    ensures { IfOk result (λ stamp. (stamp.moment ≤ last_moment)
+        × (version_num stamp.first ≡ 4)) }
+{
+    let (Ok(time), Ok(uuid)) = (SystemTime::now(rt), fresh(rt)) else {
         return Err(NoStamp);
     };
-    let first = id_of(uuid);
-    Ok(Stamp { moment, first })
+    Ok(stamp_of(time, uuid))
 }

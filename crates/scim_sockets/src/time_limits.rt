@@ -34,14 +34,15 @@ pub struct Limits {
     pub message: Duration,
     /// The bytes per second that a client must take of a reply on average, after the first minute.
     pub rate: u64,
-    /// The bytes of unfinished messages and pending replies that the server holds for all connections together.
-    /// When it holds more, the connection for which it holds most is closed.
+    /// The bytes of memory for the unfinished messages and pending replies of all connections together. The
+    /// bytes of a message count twice, since its buffer grows by doubling. When all take more, the connection
+    /// that takes most is closed.
     pub memory: u64,
 }
 
 impl Limits {
-    /// The limits by default: a minute of silence, half a minute for a head, two minutes for a message, and
-    /// 1,024 bytes per second of a reply, and 256 MiB.
+    /// Returns the default limits of a connection: a minute of silence, half a minute for a head, two minutes for
+    /// a message, and 1,024 bytes per second of a reply. All connections together have 256 MiB.
     pub fn usual() -> Limits {
         Limits {
             idle: Duration::from_secs(60),

@@ -1,7 +1,9 @@
 //! The queue of connections that have work to do.
-ghost use Rattle.std.specs.Prelude.{◌≡◌, ◌<◌, ◌≤◌, ◌↔◌, IsTrue, length};
+ghost use Rattle.std.specs.Prelude.{◌≡◌, ◌+◌, ◌<◌, ◌≤◌, ◌↔◌, None, Some, IfSome, IsTrue, length};
 ghost use Rattle.std.specs.BTreeMap.{btree_map_len};
-ghost use Rattle.scim_sockets.specs.Connections.{FitsIn};
+ghost use Rattle.scim_sockets.specs.declared.connection.Connection.{Connection};
+ghost use Rattle.scim_sockets.specs.Connections.{FitsIn, IsBehind, IsQuiet, StaysBehind};
+ghost use Rattle.scim_sockets.specs.OpenConnections.{connection_at, ChangesOne, KeepsOthers};
 
 use crate::authorization::authorization;
 use crate::clients::Clients;
@@ -103,6 +105,24 @@ impl Turns {
         self.connections.is_full()
     }
 
+    /// Returns how many numbers were given to connections.
+    pub(crate) fn given(&self) -> u64
+        ensures { result ≡ self.now.connections.next }
+    {
+        self.connections.given()
+    }
+
+    /// Returns a number for a new connection, as [`Open::new_number`] does.
+    pub(crate) fn new_number(&mut self) -> Option<u64>
+        ensures connections { self.new.connections.by_number ≡ self.old.connections.by_number }
+        ensures next { IfSome result (λ n. (n ≡ self.old.connections.next)
+            × (self.new.connections.next ≡ n + 1)) }
+        ensures absent { IfSome result (λ n.
+            connection_at self.old.connections.by_number n ≡ None) }
+    {
+        self.connections.new_number()
+    }
+
     /// Returns the length of the queue.
     pub(crate) fn waiting(&self) -> usize {
         self.queue.len()
@@ -149,7 +169,11 @@ impl Turns {
 
     /// Queues the connection with the number, if it exists, has work to do and isn't queued. A connection whose
     /// turn it is isn't queued before its turn is over.
-    fn enqueue(&mut self, number: u64) {
+    fn enqueue(&mut self, number: u64)
+        ensures changes { ChangesOne number self.old.connections.by_number
+            self.new.connections.by_number }
+        ensures next { self.new.connections.next ≡ self.old.connections.next }
+    {
         if self.served != Some(number) && self.connections.begins_to_wait(number) {
             let share = self.share_of(number);
             self.push(Place::Connection(number), share);
@@ -186,7 +210,9 @@ impl Turns {
     }
 
     /// Queues the listener if connections may be waiting and it isn't queued.
-    pub(crate) fn reopen_door(&mut self) {
+    pub(crate) fn reopen_door(&mut self)
+        ensures { self.new.connections ≡ self.old.connections }
+    {
         if self.door == Door::Later {
             self.open_door();
         }
@@ -211,6 +237,10 @@ impl Turns {
     /// Adds a connection and queues it. Returns false and drops it if memory runs out.
     pub(crate) fn join(&mut self, number: u64, connection: Connection) -> bool
         requires room { btree_map_len self.old.connections.by_number < 1024 }
+        requires given { number < self.old.connections.next }
+        ensures others { KeepsOthers number self.old.connections.by_number
+            self.new.connections.by_number }
+        ensures next { self.new.connections.next ≡ self.old.connections.next }
     {
         let has_joined = self.connections.insert(number, connection);
         self.enqueue(number);
@@ -220,7 +250,16 @@ impl Turns {
     /// Does the next work of the connection with the number, as [`Connection::turn`] does, and removes the
     /// connection if it has ended. The turn lasts until it is settled.
     pub(crate) fn turn(&mut self, number: u64, now: Duration, buffer: &mut [u8]) -> Turn
-        ensures { FitsIn buffer.new result }
+        ensures fits { FitsIn buffer.new result }
+        ensures quiet { (old : Connection)
+            → connection_at self.old.connections.by_number number ≡ Some old → IsBehind old
+            → IsQuiet result × (buffer.new ≡ buffer.old) }
+        ensures behind { (old : Connection)
+            → connection_at self.old.connections.by_number number ≡ Some old → IsBehind old
+            → IfSome (connection_at self.new.connections.by_number number) (StaysBehind old) }
+        ensures others { KeepsOthers number self.old.connections.by_number
+            self.new.connections.by_number }
+        ensures next { self.new.connections.next ≡ self.old.connections.next }
     {
         let turn = self.connections.turn(number, now, buffer);
         match turn {
@@ -236,7 +275,11 @@ impl Turns {
     }
 
     /// Notes the client of a connection if the bytes that it sent have a token.
-    fn identify(&mut self, number: u64, bytes: &[u8]) {
+    fn identify(&mut self, number: u64, bytes: &[u8])
+        ensures changes { ChangesOne number self.old.connections.by_number
+            self.new.connections.by_number }
+        ensures next { self.new.connections.next ≡ self.old.connections.next }
+    {
         let (Some(token), Some(client)) = (authorization(bytes), self.connections.client_of(number))
         else {
             return;
@@ -251,6 +294,9 @@ impl Turns {
     /// Offers bytes to a connection, and returns the length of the prefix that it took.
     pub(crate) fn write(&mut self, number: u64, now: Duration, bytes: &[u8]) -> usize
         ensures count { result ≤ length bytes.now }
+        ensures changes { ChangesOne number self.old.connections.by_number
+            self.new.connections.by_number }
+        ensures next { self.new.connections.next ≡ self.old.connections.next }
     {
         let count = self.connections.write(number, now, bytes);
         self.enqueue(number);
@@ -258,13 +304,21 @@ impl Turns {
     }
 
     /// Shuts a connection, as [`Connection::shut`] does.
-    pub(crate) fn shut(&mut self, number: u64, now: Duration) {
+    pub(crate) fn shut(&mut self, number: u64, now: Duration)
+        ensures changes { ChangesOne number self.old.connections.by_number
+            self.new.connections.by_number }
+        ensures next { self.new.connections.next ≡ self.old.connections.next }
+    {
         self.connections.shut(number, now);
         self.enqueue(number);
     }
 
     /// Drops the socket of a connection.
-    pub(crate) fn end(&mut self, number: u64) {
+    pub(crate) fn end(&mut self, number: u64)
+        ensures changes { ChangesOne number self.old.connections.by_number
+            self.new.connections.by_number }
+        ensures next { self.new.connections.next ≡ self.old.connections.next }
+    {
         self.connections.end(number);
         self.enqueue(number);
     }
@@ -280,10 +334,6 @@ impl Turns {
     /// Ends the connection with the greatest weight, and counts it, if the weights of all together exceed a
     /// bound.
     pub(crate) fn relieve(&mut self, most: u64, counts: &mut Counts) {
-        if self.connections.total() <= most {
-            return;
-        }
-        self.connections.count_total();
         if self.connections.total() > most
             && let Some(number) = self.connections.heaviest()
         {
@@ -292,9 +342,8 @@ impl Turns {
         }
     }
 
-    /// Drops the sockets of the connections that are late, and counts them. Counts the weights anew.
+    /// Drops the sockets of the connections that are late, and counts them.
     pub(crate) fn end_late(&mut self, now: Duration, limits: &Limits, counts: &mut Counts) {
-        self.connections.count_total();
         let mut from = 0;
         for _ in 0..MOST_OPEN {
             let Some((number, late)) = self.connections.late_from(from, now, limits) else {
