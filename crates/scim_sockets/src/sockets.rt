@@ -7,7 +7,7 @@ ghost use Rattle.scim_sockets.specs.Listening.{AreAccepted, IsLoopback, IsOver, 
 use crate::connection::{Connection, Turn};
 use crate::counts::{Counts, Log};
 use crate::stamps::stamp_now;
-use crate::time_limits::{LOG, LONG_TURN, LONGEST_STEP, Limits, WAIT, WATCH};
+use crate::time_limits::{LOG, LONG_TURN, LONGEST_PAUSE, LONGEST_STEP, Limits, WAIT, WATCH};
 use crate::turn_queue::{LISTENER, Place, Turns};
 use mio::net::{TcpListener, TcpStream};
 use mio::{Events, Interest, Poll, Token};
@@ -19,7 +19,7 @@ use std::io;
 use std::io::ErrorKind;
 use std::net::{Ipv4Addr, Net, SocketAddr};
 use std::random::RandomSource;
-use std::time::{Clock, Duration, Instant};
+use std::time::{Clock, CpuClock, Duration, Instant};
 use thiserror::Error;
 
 /// The maximum number of bytes per read, and so the most that is held for a connection until it is handed on.
@@ -136,7 +136,7 @@ fn unstamped(connection: u64, kind: OwnedEventKind) -> PeerEvent
 /// At most 1,024 connections are open at once. If another one waits then, the connection that has been idle
 /// longest gives way; if none is idle, it waits until one has left.
 #[derive(Drop)]
-pub struct Sockets<'r, R: Clock + RandomSource + Log> {
+pub struct Sockets<'r, R: Clock + CpuClock + RandomSource + Log> {
     rt: &'r R,
     listening: Listening,
     room: Room,
@@ -152,17 +152,19 @@ pub struct Sockets<'r, R: Clock + RandomSource + Log> {
     log_time: Duration,
     // The last reading of the clock.
     clock: Instant,
+    // The processor's time that was used until the last turn ended.
+    used: Duration,
     // The time that counts for the limits.
     time: Duration,
     // The time of the last search for late connections.
     watched: Duration,
 }
 
-impl<'r, R: Net + Clock + RandomSource + Log> Sockets<'r, R> {
+impl<'r, R: Net + Clock + CpuClock + RandomSource + Log> Sockets<'r, R> {
     /// Listens on a port of the loopback address; on a free port if `port` is 0.
     ///
     /// With `most`, at most that many connections are accepted, and [`Peers::next`] returns `None` after the
-    /// last has left. Fails with [`CannotListen`] if the port can't be bound, or if the system's poll or
+    /// last has left. Fails with [`CannotListen`] if the port can't be bound, or if the system's poll or a
     /// clock fails. After any error the port isn't bound.
     pub fn listen(
         rt: &'r R,
@@ -171,7 +173,11 @@ impl<'r, R: Net + Clock + RandomSource + Log> Sockets<'r, R> {
         most: Option<u64>,
     ) -> Result<Sockets<'r, R>, Failed<CannotListen>> {
         let room = Room::new(alloc)?;
-        let (Ok(listening), Ok(now)) = (listen_at(rt, port), Instant::now(rt)) else {
+        let (Ok(listening), Ok(now), Ok(used)) = (
+            listen_at(rt, port),
+            Instant::now(rt),
+            rt.thread_cpu_time(),
+        ) else {
             return Err(Failed::Because(CannotListen));
         };
         Ok(Sockets {
@@ -186,13 +192,14 @@ impl<'r, R: Net + Clock + RandomSource + Log> Sockets<'r, R> {
             logged: Counts::new(),
             log_time: Duration::from_secs(0),
             clock: now,
+            used,
             time: Duration::from_secs(0),
             watched: Duration::from_secs(0),
         })
     }
 }
 
-impl<'r, R: Clock + RandomSource + Log> Sockets<'r, R> {
+impl<'r, R: Clock + CpuClock + RandomSource + Log> Sockets<'r, R> {
     /// Returns the port that the socket listens on.
     pub fn port(&self) -> u16 {
         self.listening.port
@@ -404,15 +411,28 @@ impl<'r, R: Clock + RandomSource + Log> Sockets<'r, R> {
     /// Ends the turn of the connection whose event was reported last. After a turn that took long, the system
     /// is polled before the next one, since requests of other clients may have come.
     fn settle(&mut self) -> Result<(), PeersFault> {
-        let cost = self.look()?;
+        let passed = self.look()?;
+        let cost = self.cost_of(passed)?;
         self.room.turns.settle(cost);
         self.room
             .turns
             .relieve(self.limits.memory, &mut self.counts);
-        if cost > Duration::from_millis(LONG_TURN) {
+        if passed > Duration::from_millis(LONG_TURN) {
             self.round = 0;
         }
         Ok(())
+    }
+
+    /// Returns what a turn costs during which this time passed: the processor's time that was used since the last
+    /// turn ended, and at most five milliseconds more, for waits for the disk. In the rest of the time other
+    /// programs may have had the processor.
+    fn cost_of(&mut self, passed: Duration) -> Result<Duration, PeersFault> {
+        let Ok(used) = self.rt.thread_cpu_time() else {
+            return Err(PeersFault);
+        };
+        let worked = used.saturating_sub(self.used);
+        self.used = used;
+        Ok(passed.min(worked.saturating_add(Duration::from_millis(LONGEST_PAUSE))))
     }
 
     /// Reads the clock, and adds the time that has passed to `time`, but at most one second. Returns the time
@@ -430,7 +450,7 @@ impl<'r, R: Clock + RandomSource + Log> Sockets<'r, R> {
     }
 }
 
-impl<'r, R: Clock + RandomSource + Log> Peers for Sockets<'r, R> {
+impl<'r, R: Clock + CpuClock + RandomSource + Log> Peers for Sockets<'r, R> {
     ghost use Rattle.std.specs.Prelude.{false, []};
 
     ghost is_known = { false };

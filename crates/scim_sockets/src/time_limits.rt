@@ -17,6 +17,9 @@ pub(crate) const LONGEST_STEP: u64 = 1;
 /// The time in milliseconds of a turn after which the system is polled before the next turn.
 pub(crate) const LONG_TURN: u64 = 1;
 
+/// The most time in milliseconds without the processor that a turn costs.
+pub(crate) const LONGEST_PAUSE: u64 = 5;
+
 /// The time in seconds that a client has to close its side after the server has shut the connection.
 pub(crate) const LINGER: u64 = 2;
 
