@@ -2,4 +2,3 @@ pub mod AuditLemmas
 pub mod SpacedLemmas
 pub mod ImportLemmas
 pub mod ExportLemmas
-pub mod NewStoreLemmas

@@ -1,7 +1,8 @@
 //! The command `import`: stores the resources of a users file in an empty database.
-ghost use Rattle.std.specs.Prelude.{◌≡◌, ◌≢◌, ℕ, List, false, Err, IfErr, OnOk, OnErr};
+ghost use Rattle.std.specs.Prelude.{◌≡◌, ◌≢◌, ℕ, List, false, Err, IfErr, OnOk, OnErr, IsTrue};
 ghost use Rattle.sqlite.specs.State.{HasCleanDisk, Survives};
 ghost use Rattle.sqlite.specs.Held.{state};
+ghost use Rattle.sqlite.specs.Tree.{Trees};
 ghost use Rattle.scim_cell.specs.Content.{Content};
 ghost use Rattle.scim_json.specs.Documents.{IsDocumentsText, IsDamagedAt};
 ghost use Rattle.scim_shelf.specs.Stores.{Store, IsNewStore};
@@ -28,7 +29,8 @@ use std::alloc::Global;
 /// error the database is unchanged or in the state of the last commit, or the connection is closed.
 ///
 /// After a crash during the call, the database is in its earlier state, or it has the tables with all
-/// resources of the file.
+/// resources of the file. After a crash behind a successful call, it has the tables with all resources of the
+/// file, if the disk returns what was written.
 pub fn import<S: Alter>(
     alloc: Global,
     connection: &mut Connection<S>,
@@ -51,6 +53,13 @@ pub fn import<S: Alter>(
         → OnErr result (Rests (state S.Store connection.old) (state S.Store connection.new)) }
     ensures crash { Survives (state S.Store connection.old) (state S.Store connection.new)
         (LeavesUsers base.now users.now (state S.Store connection.old)) }
+
+    // After Ok, the connection is open, and a crash leaves the tables with all resources of the file.
+    ensures is_open { HasCleanDisk (state S.Store connection.new)
+        → OnOk result (IsTrue (state S.Store connection.new).is_open) }
+    ensures durable { HasCleanDisk (state S.Store connection.new)
+        → OnOk result ((trees : Trees) → (state S.Store connection.new).may_leave trees
+        → LeavesUsers base.now users.now (state S.Store connection.old) trees) }
     ensures faults { IfErr result IsImportFault }
 {
     let resources = read_documents(alloc, base, users)?;
