@@ -25,7 +25,8 @@ pub enum StepFault {
     /// The path has no target: no value matches, and none can be made (noTarget).
     #[error("the path has no target")]
     NoTarget,
-    /// The result would have two primary values, a member without `value`, or too many values (invalidValue).
+    /// The result would have two primary values, a member without `value`, or too many values, or the patch is
+    /// too much work (invalidValue).
     #[error("the values would be wrong")]
     Value,
 }
