@@ -1,4 +1,5 @@
 pub mod Inputs
+pub mod Options
 pub mod Once
 pub mod Check
 pub mod Faults

@@ -1,5 +1,7 @@
 -- The text that `replay` writes for its files, and its faults.
-use Rattle.std.specs.Prelude.{◌≡◌, ℕ, List, Result, Ok}
+use Rattle.std.specs.Prelude.{◌≡◌, ℕ, List, Result, Ok, IsOk}
+use Rattle.scim_cell.specs.Content.{Content}
+use Rattle.scim_json.specs.Documents.{IsDocumentsText}
 use Rattle.scim_policy.specs.Rules.{Rule}
 use Rattle.scim_policy_file.specs.File.{policy_of}
 use Rattle.scim_shelf.specs.Stores.{Store}
@@ -20,6 +22,13 @@ module _ (policy : List Rule) (base : List ℕ) (entries : List Entry) (state : 
     pub next : HubState
     pub runs : Runs policy base entries state events results next
     pub text_is : text ≡ results_text events results
+
+-- the policy, the token and the users file are valid
+pub record AreSound (r : Recording) : Type 0 where
+  pub policy : IsOk (policy_of r.policy.now)
+  pub tokens : IsOk (entries_in r.tokens.now)
+  pub resources : List Content
+  pub users : IsDocumentsText r.base.now r.users.now resources
 
 -- the text is the lines for the results of the events in the events file, handled in order by a hub that has
 -- no connections at first and has the policy, the resources and the tokens of the other files

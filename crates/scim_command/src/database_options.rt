@@ -1,5 +1,11 @@
 //! The options of the commands `audit`, `export` and `import`.
+ghost use Rattle.std.specs.Prelude.{◌≡◌, IfOk, IfErr, codes};
+ghost use Rattle.scim_command.specs.EventFiles.{IsNumberText};
+ghost use Rattle.scim_command.specs.Options.{AreOfAudit, AreOfImport, Has};
+ghost use Rattle.scim_command.specs.declared.command_faults.CommandFault.{CommandFault};
+
 use crate::command_faults::CommandFault;
+use crate::event_lines::number_in;
 use crate::options::text_of;
 use clap::ArgMatches;
 
@@ -32,7 +38,10 @@ pub struct ImportOptions<'a> {
 
 impl<'a> AuditOptions<'a> {
     /// Reads the options of `audit`. Fails with `BadOption` if a number isn't digits or exceeds 64 bits.
-    pub fn of(matches: &ArgMatches<'a>) -> Result<AuditOptions<'a>, CommandFault> {
+    pub fn of(matches: &ArgMatches<'a>) -> Result<AuditOptions<'a>, CommandFault>
+        ensures options { IfOk result (AreOfAudit matches.now) }
+        ensures fault { IfErr result (λ f. f ≡ CommandFault.BadOption) }
+    {
         Ok(AuditOptions {
             database: text_of(matches, "db")?,
             from: number_of(text_of(matches, "from")?)?,
@@ -43,7 +52,10 @@ impl<'a> AuditOptions<'a> {
 
 impl<'a> ExportOptions<'a> {
     /// Reads the options of `export`.
-    pub fn of(matches: &ArgMatches<'a>) -> Result<ExportOptions<'a>, CommandFault> {
+    pub fn of(matches: &ArgMatches<'a>) -> Result<ExportOptions<'a>, CommandFault>
+        ensures database { IfOk result (λ o. Has matches.now (codes "db") o.database.now) }
+        ensures fault { IfErr result (λ f. f ≡ CommandFault.BadOption) }
+    {
         Ok(ExportOptions {
             database: text_of(matches, "db")?,
         })
@@ -52,7 +64,10 @@ impl<'a> ExportOptions<'a> {
 
 impl<'a> ImportOptions<'a> {
     /// Reads the options of `import`.
-    pub fn of(matches: &ArgMatches<'a>) -> Result<ImportOptions<'a>, CommandFault> {
+    pub fn of(matches: &ArgMatches<'a>) -> Result<ImportOptions<'a>, CommandFault>
+        ensures options { IfOk result (AreOfImport matches.now) }
+        ensures fault { IfErr result (λ f. f ≡ CommandFault.BadOption) }
+    {
         Ok(ImportOptions {
             database: text_of(matches, "db")?,
             users: text_of(matches, "users")?,
@@ -62,12 +77,12 @@ impl<'a> ImportOptions<'a> {
 
 /// Parses a number in decimal digits. Fails with `BadOption` if the text isn't digits or the number exceeds
 /// 64 bits.
-pub(crate) fn number_of(text: &str) -> Result<u64, CommandFault> {
-    if matches!(text.as_bytes(), [b'+', ..]) {
-        return Err(CommandFault::BadOption);
-    }
-    match text.parse::<u64>() {
-        Ok(number) => Ok(number),
-        Err(_) => Err(CommandFault::BadOption),
+pub(crate) fn number_of(text: &str) -> Result<u64, CommandFault>
+    ensures number { IfOk result (IsNumberText text.now) }
+    ensures fault { IfErr result (λ f. f ≡ CommandFault.BadOption) }
+{
+    match number_in(text) {
+        Some(number) => Ok(number),
+        None => Err(CommandFault::BadOption),
     }
 }

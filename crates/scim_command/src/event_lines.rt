@@ -29,8 +29,8 @@ fn cut(text: &str) -> (&str, &str)
     }
 }
 
-/// Parses a number of at most 64 bits; `None` if the text isn't one.
-fn number_in(text: &str) -> Option<u64>
+/// Parses a number of at most 64 bits in decimal digits; `None` if the text isn't one.
+pub(crate) fn number_in(text: &str) -> Option<u64>
     ensures { Finds (λ n. n) (IsNumberText text.now) result }
 {
     if matches!(text.as_bytes(), [b'+', ..]) {

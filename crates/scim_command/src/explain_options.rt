@@ -1,4 +1,9 @@
 //! The options of the command `explain`.
+ghost use Rattle.std.specs.Prelude.{◌≡◌, None, Some, IfOk, IfErr, IfSome, MatchOption, codes};
+ghost use Rattle.scim_schema.specs.declared.Leaf.{Leaf};
+ghost use Rattle.scim_command.specs.Options.{AreOfExplain, leaf_named, value_of};
+ghost use Rattle.scim_command.specs.declared.command_faults.CommandFault.{CommandFault};
+
 use crate::command_faults::CommandFault;
 use crate::options::text_of;
 use clap::ArgMatches;
@@ -32,7 +37,10 @@ impl<'a> ExplainOptions<'a> {
     /// Fails with `BadOption` if the client's name isn't valid, if there is no such operation or kind, if the
     /// id doesn't have the form in which the server prints ids, or if the path doesn't name one leaf of the
     /// kind.
-    pub fn of(matches: &ArgMatches<'a>) -> Result<ExplainOptions<'a>, CommandFault> {
+    pub fn of(matches: &ArgMatches<'a>) -> Result<ExplainOptions<'a>, CommandFault>
+        ensures options { IfOk result (AreOfExplain matches.now) }
+        ensures fault { IfErr result (λ f. f ≡ CommandFault.BadOption) }
+    {
         let client = text_of(matches, "client")?;
         if !is_client_name(client) {
             return Err(CommandFault::BadOption);
@@ -60,7 +68,12 @@ impl<'a> ExplainOptions<'a> {
 
 /// Returns the leaf that the option `path` names; `None` if the option isn't given. Fails with `BadOption` if
 /// the path doesn't name one leaf of the kind.
-fn leaf_given(matches: &ArgMatches<'_>, kind: Kind) -> Result<Option<Leaf>, CommandFault> {
+fn leaf_given(matches: &ArgMatches<'_>, kind: Kind) -> Result<Option<Leaf>, CommandFault>
+    ensures leaf { IfOk result (λ found. MatchOption (value_of matches.now (codes "path"))
+        (found ≡ None) (λ value. (leaf : Leaf) × (found ≡ Some leaf)
+        × (leaf_named kind value ≡ Some leaf))) }
+    ensures fault { IfErr result (λ f. f ≡ CommandFault.BadOption) }
+{
     match matches.get_str("path") {
         Some(path) => match leaf_at(kind, path) {
             Some(leaf) => Ok(Some(leaf)),
@@ -71,7 +84,9 @@ fn leaf_given(matches: &ArgMatches<'_>, kind: Kind) -> Result<Option<Leaf>, Comm
 }
 
 /// Returns the leaf of the kind that a path names; `None` if the path doesn't name exactly one leaf.
-fn leaf_at(kind: Kind, path: &str) -> Option<Leaf> {
+fn leaf_at(kind: Kind, path: &str) -> Option<Leaf>
+    ensures { IfSome result (λ leaf. leaf_named kind path.now ≡ Some leaf) }
+{
     let leaf = match attribute_path(kind, path)? {
         Meant::Attribute(attribute) => Leaf::simple(attribute),
         Meant::SubAttribute(attribute, sub_attribute) => Leaf::of(attribute, sub_attribute),

@@ -1,5 +1,5 @@
 //! The commands `once` and `check` over the files that their options name.
-ghost use Rattle.std.specs.Prelude.{◌≡◌, ◌≢◌, ℕ, Bool, List, Ok, Err, IfErr, IfSome, OnOk};
+ghost use Rattle.std.specs.Prelude.{◌≡◌, ◌≢◌, ℕ, Bool, List, Ok, Err, IfErr, IfSome, OnOk, codes};
 ghost use Rattle.std.specs.Io.KnownBytes.{Appends};
 ghost use Rattle.scim_policy.specs.Rules.{Rule};
 ghost use Rattle.scim_policy_file.specs.File.{policy_of};
@@ -7,6 +7,7 @@ ghost use Rattle.scim_wire.specs.Streams.{AppendsFront};
 ghost use Rattle.scim_command.specs.Check.{IsCheckFault, check_text};
 ghost use Rattle.scim_command.specs.Faults.{IsOverFiles};
 ghost use Rattle.scim_command.specs.Once.{Answers, IsOnceFault};
+ghost use Rattle.scim_command.specs.Options.{IsFlag, IsSetting};
 ghost use Rattle.scim_command.specs.declared.command_faults.CommandFault.{CommandFault};
 ghost use Rattle.scim_command.specs.declared.faults.RunFault.{RunFault};
 ghost use Rattle.scim_command.specs.declared.run_once.Setting.{Setting};
@@ -31,11 +32,13 @@ pub fn once_over_files<R: Read, W: Write>(
     writer: &mut W,
 ) -> Result<(), CommandFault>
     ensures answered { OnOk result (IfSome (R.remaining reader.old) (λ input.
-        (setting : Setting) × (output : List ℕ) × Answers setting input output
+        (setting : Setting) × (output : List ℕ) × IsSetting matches.now setting
+        × Answers setting input output
         × Appends (W.contents writer.old) (W.contents writer.new) output)) }
     ensures output { result ≡ Err (CommandFault.Run RunFault.Output)
         → IfSome (R.remaining reader.old) (λ input.
-        (setting : Setting) × (output : List ℕ) × Answers setting input output
+        (setting : Setting) × (output : List ℕ) × IsSetting matches.now setting
+        × Answers setting input output
         × AppendsFront (W.contents writer.old) (W.contents writer.new) output) }
     ensures silent { IfErr result (λ f. f ≢ CommandFault.Run RunFault.Output
         → writer.new ≡ writer.old) }
@@ -59,11 +62,11 @@ pub fn check_over_files<W: Write>(
     writer: &mut W,
 ) -> Result<(), CommandFault>
     ensures told { OnOk result ((policy : List ℕ) × (rules : List Rule) × (verbose : Bool)
-        × (policy_of policy ≡ Ok rules)
+        × (policy_of policy ≡ Ok rules) × IsFlag matches.now (codes "verbose") verbose
         × Appends (W.contents writer.old) (W.contents writer.new) (check_text verbose rules)) }
     ensures output { result ≡ Err (CommandFault.Run RunFault.Output)
         → (policy : List ℕ) × (rules : List Rule) × (verbose : Bool)
-        × (policy_of policy ≡ Ok rules)
+        × (policy_of policy ≡ Ok rules) × IsFlag matches.now (codes "verbose") verbose
         × AppendsFront (W.contents writer.old) (W.contents writer.new) (check_text verbose rules) }
     ensures silent { IfErr result (λ f. f ≢ CommandFault.Run RunFault.Output
         → writer.new ≡ writer.old) }

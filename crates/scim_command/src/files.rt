@@ -115,7 +115,11 @@ impl OnceTexts {
     }
 
     /// Returns the input of `once` with these texts and options.
-    pub(crate) fn setting<'a>(&'a self, options: &OnceOptions<'a>) -> Setting<'a> {
+    pub(crate) fn setting<'a>(&'a self, options: &OnceOptions<'a>) -> Setting<'a>
+        ensures client { result.client.now ≡ options.now.client.now }
+        ensures base { result.base.now ≡ options.now.base.now }
+        ensures arrival { (result.at ≡ options.now.at) × (result.first ≡ options.now.first) }
+    {
         Setting {
             policy: self.policy.as_str(),
             users: self.users.as_str(),

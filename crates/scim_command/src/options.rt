@@ -1,6 +1,8 @@
 //! The options of the commands `once` and `check`, and helpers to read options.
-ghost use Rattle.std.specs.Prelude.{◌≡◌, IfErr};
+ghost use Rattle.std.specs.Prelude.{◌≡◌, IfOk, IfErr, codes};
 ghost use Rattle.scim_command.specs.declared.command_faults.CommandFault.{CommandFault};
+ghost use Rattle.scim_command.specs.EventFiles.{IsMomentText};
+ghost use Rattle.scim_command.specs.Options.{AreOfOnce, Has, IsFlag};
 ghost use Rattle.scim_command.specs.code.FileExits.{IsOfOptions};
 
 use crate::command_faults::CommandFault;
@@ -43,7 +45,8 @@ impl<'a> OnceOptions<'a> {
     /// Fails with `BadOption` if the client's name isn't valid, or if the time or the id doesn't have the
     /// form in which the server prints times and ids.
     pub fn of(alloc: Global, matches: &ArgMatches<'a>) -> Result<OnceOptions<'a>, CommandFault>
-        ensures { IfErr result IsOfOptions }
+        ensures options { IfOk result (AreOfOnce matches.now) }
+        ensures fault { IfErr result IsOfOptions }
     {
         let client = text_of(matches, "client")?;
         if !is_client_name(client) {
@@ -66,7 +69,9 @@ impl<'a> OnceOptions<'a> {
 impl<'a> CheckOptions<'a> {
     /// Reads the options of `check`.
     pub fn of(matches: &ArgMatches<'a>) -> Result<CheckOptions<'a>, CommandFault>
-        ensures { IfErr result IsOfOptions }
+        ensures policy { IfOk result (λ o. Has matches.now (codes "policy") o.policy.now) }
+        ensures verbose { IfOk result (λ o. IsFlag matches.now (codes "verbose") o.verbose) }
+        ensures fault { IfErr result IsOfOptions }
     {
         Ok(CheckOptions {
             policy: text_of(matches, "policy")?,
@@ -77,7 +82,8 @@ impl<'a> CheckOptions<'a> {
 
 /// Returns the text of an option. Fails with `BadOption` if the option isn't given.
 pub(crate) fn text_of<'a>(matches: &ArgMatches<'a>, name: &str) -> Result<&'a str, CommandFault>
-    ensures { IfErr result (λ f. f ≡ CommandFault.BadOption) }
+    ensures value { IfOk result (λ text. Has matches.now name.now text.now) }
+    ensures fault { IfErr result (λ f. f ≡ CommandFault.BadOption) }
 {
     match matches.get_str(name) {
         Some(text) => Ok(text),
@@ -87,7 +93,8 @@ pub(crate) fn text_of<'a>(matches: &ArgMatches<'a>, name: &str) -> Result<&'a st
 
 /// Parses a time. Fails with `BadOption` if the text doesn't have the form in which the server prints times.
 fn moment_of(alloc: Global, text: &str) -> Result<Moment, CommandFault>
-    ensures { IfErr result IsOfOptions }
+    ensures moment { IfOk result (IsMomentText text.now) }
+    ensures fault { IfErr result IsOfOptions }
 {
     match read_printed_moment(alloc, text) {
         Ok(Some(moment)) => Ok(moment),

@@ -1,5 +1,6 @@
 //! The options of the command `replay`.
-ghost use Rattle.std.specs.Prelude.{IfErr};
+ghost use Rattle.std.specs.Prelude.{IfOk, IfErr};
+ghost use Rattle.scim_command.specs.Options.{AreOfReplay};
 ghost use Rattle.scim_command.specs.code.FileExits.{IsOfOptions};
 
 use crate::command_faults::CommandFault;
@@ -24,7 +25,8 @@ pub struct ReplayOptions<'a> {
 impl<'a> ReplayOptions<'a> {
     /// Reads the options of `replay`.
     pub fn of(matches: &ArgMatches<'a>) -> Result<ReplayOptions<'a>, CommandFault>
-        ensures { IfErr result IsOfOptions }
+        ensures options { IfOk result (AreOfReplay matches.now) }
+        ensures fault { IfErr result IsOfOptions }
     {
         Ok(ReplayOptions {
             policy: text_of(matches, "policy")?,

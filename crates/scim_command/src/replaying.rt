@@ -1,10 +1,11 @@
 //! The command `replay` over the files that its options name.
-ghost use Rattle.std.specs.Prelude.{◌≡◌, ◌≢◌, ℕ, List, Ok, Err, IfOk, IfErr, OnOk};
+ghost use Rattle.std.specs.Prelude.{◌≡◌, ◌≢◌, ℕ, List, Ok, Err, IfOk, IfErr, OnOk, codes};
 ghost use Rattle.std.specs.Io.KnownBytes.{Appends};
 ghost use Rattle.scim_token.specs.TokenFile.{Entry, entries_in};
 ghost use Rattle.scim_token.specs.Tokens.{Knows};
 ghost use Rattle.scim_wire.specs.Streams.{AppendsFront};
 ghost use Rattle.scim_command.specs.Faults.{IsOverFiles};
+ghost use Rattle.scim_command.specs.Options.{Has};
 ghost use Rattle.scim_command.specs.Replays.{Replays, IsReplayFault};
 ghost use Rattle.scim_command.specs.code.ReplayExits.{IsOfRecording};
 ghost use Rattle.scim_command.specs.declared.command_faults.CommandFault.{CommandFault};
@@ -100,10 +101,12 @@ pub fn replay_over_files<W: Write>(
     matches: &ArgMatches<'_>,
     writer: &mut W,
 ) -> Result<(), CommandFault>
-    ensures told { OnOk result ((recording : Recording) × (text : List ℕ) × Replays recording text
+    ensures told { OnOk result ((recording : Recording) × (text : List ℕ)
+        × Has matches.now (codes "base") recording.base.now × Replays recording text
         × Appends (W.contents writer.old) (W.contents writer.new) text) }
     ensures output { result ≡ Err (CommandFault.Run RunFault.Output)
-        → (recording : Recording) × (text : List ℕ) × Replays recording text
+        → (recording : Recording) × (text : List ℕ)
+        × Has matches.now (codes "base") recording.base.now × Replays recording text
         × AppendsFront (W.contents writer.old) (W.contents writer.new) text }
     ensures silent { IfErr result (λ f. f ≢ CommandFault.Run RunFault.Output
         → writer.new ≡ writer.old) }

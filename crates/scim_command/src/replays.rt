@@ -1,5 +1,5 @@
 //! The command `replay`: answers the events of a file with a hub over a users file in memory.
-ghost use Rattle.std.specs.Prelude.{◌≡◌, ◌≢◌, ℕ, List, Ok, Err, IfOk, IfErr, IfSome, OnOk, map, string_bytes};
+ghost use Rattle.std.specs.Prelude.{◌≡◌, ◌≢◌, ℕ, List, Ok, Err, IsOk, IfOk, IfErr, IfSome, OnOk, map, string_bytes};
 ghost use Rattle.std.specs.Io.KnownBytes.{Appends};
 ghost use Rattle.scim_json.specs.Documents.{IsDamagedAt};
 ghost use Rattle.scim_policy_file.specs.File.{policy_of};
@@ -12,7 +12,7 @@ ghost use Rattle.scim_command.specs.declared.faults.RunFault.{RunFault};
 ghost use Rattle.scim_hub.specs.Events.{HubState};
 ghost use Rattle.scim_hub.specs.HubStates.{IsHubState, owned_event_of};
 ghost use Rattle.scim_command.specs.EventFiles.{IsEventFile, IsFaultyAt, file_lines};
-ghost use Rattle.scim_command.specs.Replays.{Replays, AreResultsOf, IsReplayFault};
+ghost use Rattle.scim_command.specs.Replays.{Replays, AreResultsOf, AreSound, IsReplayFault};
 ghost use Rattle.scim_command.specs.code.ReplayExits.{IsHubOver, IsOfFiles, IsOfEvents, IsOfRecording};
 ghost use Rattle.scim_hub.specs.HubSetting.{hub_base, hub_policy, hub_tokens};
 
@@ -63,12 +63,14 @@ pub fn replay<W: Write>(
         × AppendsFront (W.contents writer.old) (W.contents writer.new) text }
     ensures policy { (rule : ℕ) (cause : Cause) → result ≡ Err (RunFault.Policy rule cause)
         → policy_of recording.now.policy.now ≡ Err (record { rule = rule; cause = cause }) }
-    ensures users { (n : ℕ) → result ≡ Err (RunFault.Users n)
-        → IsDamagedAt recording.now.base.now recording.now.users.now n }
-    ensures tokens { (n : ℕ) → result ≡ Err (RunFault.Tokens n) → (cause : LineFault)
+    ensures tokens { (n : ℕ) → result ≡ Err (RunFault.Tokens n)
+        → IsOk (policy_of recording.now.policy.now) × (cause : LineFault)
         × (entries_in recording.now.tokens.now ≡ Err (record { line = n; cause = cause })) }
+    ensures users { (n : ℕ) → result ≡ Err (RunFault.Users n)
+        → IsOk (policy_of recording.now.policy.now) × IsOk (entries_in recording.now.tokens.now)
+        × IsDamagedAt recording.now.base.now recording.now.users.now n }
     ensures events { (n : ℕ) → result ≡ Err (RunFault.Events n)
-        → IsFaultyAt (file_lines recording.now.events.now) n }
+        → AreSound recording.now × IsFaultyAt (file_lines recording.now.events.now) n }
     ensures silent { IfErr result (λ f. f ≢ RunFault.Output → writer.new ≡ writer.old) }
     ensures faults { IfErr result IsReplayFault }
 {
@@ -90,12 +92,14 @@ fn replayed(alloc: Global, recording: &Recording<'_>) -> Result<String, RunFault
     ensures told { IfOk result (λ text. Replays recording.now (string_bytes text)) }
     ensures policy { (rule : ℕ) (cause : Cause) → result ≡ Err (RunFault.Policy rule cause)
         → policy_of recording.now.policy.now ≡ Err (record { rule = rule; cause = cause }) }
-    ensures users { (n : ℕ) → result ≡ Err (RunFault.Users n)
-        → IsDamagedAt recording.now.base.now recording.now.users.now n }
-    ensures tokens { (n : ℕ) → result ≡ Err (RunFault.Tokens n) → (cause : LineFault)
+    ensures tokens { (n : ℕ) → result ≡ Err (RunFault.Tokens n)
+        → IsOk (policy_of recording.now.policy.now) × (cause : LineFault)
         × (entries_in recording.now.tokens.now ≡ Err (record { line = n; cause = cause })) }
+    ensures users { (n : ℕ) → result ≡ Err (RunFault.Users n)
+        → IsOk (policy_of recording.now.policy.now) × IsOk (entries_in recording.now.tokens.now)
+        × IsDamagedAt recording.now.base.now recording.now.users.now n }
     ensures events { (n : ℕ) → result ≡ Err (RunFault.Events n)
-        → IsFaultyAt (file_lines recording.now.events.now) n }
+        → AreSound recording.now × IsFaultyAt (file_lines recording.now.events.now) n }
     ensures fault { IfErr result IsOfRecording }
 {
     let mut hub = hub_over(alloc, recording)?;
@@ -110,10 +114,12 @@ fn hub_over(alloc: Global, recording: &Recording<'_>) -> Result<Hub<MemoryShelf>
     ensures hub { IfOk result (IsHubOver ⟦<MemoryShelf as Shelf>⟧.stands recording.now) }
     ensures policy { (rule : ℕ) (cause : Cause) → result ≡ Err (RunFault.Policy rule cause)
         → policy_of recording.now.policy.now ≡ Err (record { rule = rule; cause = cause }) }
-    ensures users { (n : ℕ) → result ≡ Err (RunFault.Users n)
-        → IsDamagedAt recording.now.base.now recording.now.users.now n }
-    ensures tokens { (n : ℕ) → result ≡ Err (RunFault.Tokens n) → (cause : LineFault)
+    ensures tokens { (n : ℕ) → result ≡ Err (RunFault.Tokens n)
+        → IsOk (policy_of recording.now.policy.now) × (cause : LineFault)
         × (entries_in recording.now.tokens.now ≡ Err (record { line = n; cause = cause })) }
+    ensures users { (n : ℕ) → result ≡ Err (RunFault.Users n)
+        → IsOk (policy_of recording.now.policy.now) × IsOk (entries_in recording.now.tokens.now)
+        × IsDamagedAt recording.now.base.now recording.now.users.now n }
     ensures fault { IfErr result IsOfFiles }
 {
     let policy = read_policy(alloc, recording.policy)?;

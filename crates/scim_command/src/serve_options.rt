@@ -1,4 +1,9 @@
 //! The options of the command `serve`.
+ghost use Rattle.std.specs.Prelude.{◌≡◌, IfOk, IfErr, codes};
+ghost use Rattle.scim_command.specs.EventFiles.{IsNumberText};
+ghost use Rattle.scim_command.specs.Options.{AreOfServe, MayHaveNumber};
+ghost use Rattle.scim_command.specs.declared.command_faults.CommandFault.{CommandFault};
+
 use crate::command_faults::CommandFault;
 use crate::database_options::number_of;
 use crate::options::text_of;
@@ -36,7 +41,10 @@ pub struct ServeOptions<'a> {
 impl<'a> ServeOptions<'a> {
     /// Reads the options of `serve`. Fails with `BadOption` if a number isn't digits, exceeds 64 bits, or is
     /// a port above 65,535.
-    pub fn of(matches: &ArgMatches<'a>) -> Result<ServeOptions<'a>, CommandFault> {
+    pub fn of(matches: &ArgMatches<'a>) -> Result<ServeOptions<'a>, CommandFault>
+        ensures options { IfOk result (AreOfServe matches.now) }
+        ensures fault { IfErr result (λ f. f ≡ CommandFault.BadOption) }
+    {
         Ok(ServeOptions {
             policy: text_of(matches, "policy")?,
             tokens: text_of(matches, "tokens")?,
@@ -55,7 +63,10 @@ impl<'a> ServeOptions<'a> {
 }
 
 /// Parses a port. Fails with `BadOption` if the text isn't digits or the number exceeds 65,535.
-fn port_of(text: &str) -> Result<u16, CommandFault> {
+fn port_of(text: &str) -> Result<u16, CommandFault>
+    ensures number { IfOk result (IsNumberText text.now) }
+    ensures fault { IfErr result (λ f. f ≡ CommandFault.BadOption) }
+{
     match u16::try_from(number_of(text)?) {
         Ok(port) => Ok(port),
         Err(_) => Err(CommandFault::BadOption),
@@ -64,7 +75,10 @@ fn port_of(text: &str) -> Result<u16, CommandFault> {
 
 /// Returns the number of connections after which the server ends, if given. Fails with `BadOption` if the
 /// text isn't digits or the number exceeds 64 bits.
-fn connections_of(matches: &ArgMatches<'_>) -> Result<Option<u64>, CommandFault> {
+fn connections_of(matches: &ArgMatches<'_>) -> Result<Option<u64>, CommandFault>
+    ensures number { IfOk result (MayHaveNumber matches.now (codes "connections")) }
+    ensures fault { IfErr result (λ f. f ≡ CommandFault.BadOption) }
+{
     match matches.get_str("connections") {
         Some(text) => Ok(Some(number_of(text)?)),
         None => Ok(None),

@@ -1,4 +1,4 @@
-use Rattle.std.proofs.Common.{map}
+use Rattle.std.proofs.Common.{rules, map}
 use Rattle.scim_hub.specs.Events.{none_joined}
 use Rattle.scim_hub.specs.HubStates.{owned_event_of}
 use Rattle.scim_command.proofs.replays.replayed.Goals as goal
@@ -18,3 +18,6 @@ returns-clause-told c =
       tells = c.in_ok-events.ensures.events;
       answers = rw (hub.base, c.as_slice.ensures.value) at answers;
     }
+
+pub returns-in_err-hub-clause-users : goal.returns-in_err-hub-clause-users
+returns-in_err-hub-clause-users c n is = c.in_err-hub.ensures.users n (search rules)

@@ -1,0 +1,121 @@
+-- The options of the commands: the values that the command line has for them, or their defaults.
+use Rattle.std.specs.Prelude.{◌≡◌, ℕ, Bool, true, false, not, List, Option, None, Some, option_and_then, option_map, codes, MatchOption}
+use Rattle.clap.specs.Words.{first_value, found_of, one_text}
+use Rattle.clap.specs.declared.parser.matches.ArgMatches.{ArgMatches}
+use Rattle.scim_schema.specs.declared.Kind.{Kind}
+use Rattle.scim_schema.specs.declared.Leaf.{Leaf}
+use Rattle.scim_schema.specs.Lookup.{kind_named, operation_named}
+use Rattle.scim_schema.specs.Units.{simple, leaf_at}
+use Rattle.scim_filter_grammar.specs.declared.tree.Meant.{Meant}
+use Rattle.scim_filter_grammar.specs.declared.tree.Meant.TheVariants.{Nothing, Attribute, SubAttribute}
+use Rattle.scim_filter_grammar.specs.Spelled.{path_in}
+use Rattle.scim_command.specs.declared.database_options.AuditOptions.{AuditOptions}
+use Rattle.scim_command.specs.declared.database_options.ImportOptions.{ImportOptions}
+use Rattle.scim_command.specs.declared.explain_options.ExplainOptions.{ExplainOptions}
+use Rattle.scim_command.specs.declared.options.OnceOptions.{OnceOptions}
+use Rattle.scim_command.specs.declared.run_once.Setting.{Setting}
+use Rattle.scim_command.specs.declared.replay_options.ReplayOptions.{ReplayOptions}
+use Rattle.scim_command.specs.declared.serve_options.ServeOptions.{ServeOptions}
+use Rattle.scim_command.specs.EventFiles.{IsMomentText, IsNumberText, IsTextOfId}
+
+-- the value of the option with this name; `None` if it isn't given and has no default
+abbrev pub value_of : ArgMatches → List ℕ → Option (List ℕ)
+value_of matches name = first_value (found_of matches) name
+
+-- the option has this value
+abbrev pub Has : ArgMatches → List ℕ → List ℕ → Type 0
+Has matches name value = value_of matches name ≡ Some value
+
+-- the option has a value that satisfies `Is`
+abbrev pub HasSome : ArgMatches → List ℕ → (List ℕ → Type 0) → Type 0
+HasSome matches name Is = (value : List ℕ) × Has matches name value × Is value
+
+-- the option has this number as its value, in decimal digits
+abbrev pub HasNumber : ArgMatches → List ℕ → ℕ → Type 0
+HasNumber matches name n = HasSome matches name (λ value. IsNumberText value n)
+
+-- the option has this number as its value, if it has a value
+abbrev pub MayHaveNumber : ArgMatches → List ℕ → Option ℕ → Type 0
+MayHaveNumber matches name found =
+    MatchOption (value_of matches name) (found ≡ None) (λ value. (n : ℕ) × (found ≡ Some n) × IsNumberText value n)
+
+-- whether the flag with this name is given
+pub record IsFlag (matches : ArgMatches) (name : List ℕ) (given : Bool) : Type 0 where
+  pub none : one_text (found_of matches) name ≡ None → given ≡ false
+  pub given_true : one_text (found_of matches) name ≡ Some (codes "true") → given ≡ true
+  pub given_false : one_text (found_of matches) name ≡ Some (codes "false") → given ≡ false
+
+-- the client, the base URL, the time and the id that `once` uses
+pub record IsArrival (matches : ArgMatches) (client base : List ℕ) (moment : ℕ) (first : List ℕ) : Type 0 where
+  pub client_is : Has matches (codes "client") client
+  pub base_is : Has matches (codes "base") base
+  pub moment_is : HasSome matches (codes "at") (λ value. IsMomentText value moment)
+  pub first_is : HasSome matches (codes "first") (λ value. IsTextOfId value first)
+
+-- the setting has the client, the base URL, the time and the id that `once` uses
+abbrev pub IsSetting : ArgMatches → Setting → Type 0
+IsSetting matches s = IsArrival matches s.client.now s.base.now s.at s.first
+
+-- the options of `once`
+pub record AreOfOnce (matches : ArgMatches) (o : OnceOptions) : Type 0 where
+  pub policy : Has matches (codes "policy") o.policy.now
+  pub users : Has matches (codes "users") o.users.now
+  pub arrival : IsArrival matches o.client.now o.base.now o.at o.first
+
+-- the options of `replay`
+pub record AreOfReplay (matches : ArgMatches) (o : ReplayOptions) : Type 0 where
+  pub policy : Has matches (codes "policy") o.policy.now
+  pub tokens : Has matches (codes "tokens") o.tokens.now
+  pub users : Has matches (codes "users") o.users.now
+  pub events : Has matches (codes "events") o.events.now
+  pub base : Has matches (codes "base") o.base.now
+
+-- the options of `serve`
+pub record AreOfServe (matches : ArgMatches) (o : ServeOptions) : Type 0 where
+  pub policy : Has matches (codes "policy") o.policy.now
+  pub tokens : Has matches (codes "tokens") o.tokens.now
+  pub database : Has matches (codes "db") o.database.now
+  pub port : HasNumber matches (codes "port") o.port
+  pub base : Has matches (codes "base") o.base.now
+  pub connections : MayHaveNumber matches (codes "connections") o.connections
+  pub idle : HasNumber matches (codes "idle-seconds") o.idle_seconds
+  pub head : HasNumber matches (codes "head-seconds") o.head_seconds
+  pub message : HasNumber matches (codes "message-seconds") o.message_seconds
+  pub rate : HasNumber matches (codes "reply-rate") o.reply_rate
+  pub memory : HasNumber matches (codes "memory") o.memory
+  pub cache : IsFlag matches (codes "no-cache") (not o.has_cache)
+
+-- the options of `audit`
+pub record AreOfAudit (matches : ArgMatches) (o : AuditOptions) : Type 0 where
+  pub database : Has matches (codes "db") o.database.now
+  pub from : HasNumber matches (codes "from") o.from
+  pub count : HasNumber matches (codes "count") o.count
+
+-- the options of `import`
+pub record AreOfImport (matches : ArgMatches) (o : ImportOptions) : Type 0 where
+  pub database : Has matches (codes "db") o.database.now
+  pub users : Has matches (codes "users") o.users.now
+
+-- the leaf that a path means, if it means one
+abbrev pub leaf_meant : Meant → Option Leaf
+leaf_meant Nothing = None
+leaf_meant (Attribute a) = Some (simple a)
+leaf_meant (SubAttribute a s) = Some (leaf_at a s)
+
+-- the leaf of the kind that a text names, if it names one
+abbrev pub leaf_named : Kind → List ℕ → Option Leaf
+leaf_named kind text = option_and_then (λ path. leaf_meant path.meant) (path_in kind text)
+
+-- the options of `explain`
+pub record AreOfExplain (matches : ArgMatches) (o : ExplainOptions) : Type 0 where
+  pub policy : Has matches (codes "policy") o.policy.now
+  pub database : Has matches (codes "db") o.database.now
+  pub client : Has matches (codes "client") o.client.now
+  pub op : HasSome matches (codes "op") (λ value. operation_named value ≡ Some o.op)
+  pub kind : HasSome matches (codes "kind") (λ value. kind_named value ≡ Some o.kind)
+  pub id : HasSome matches (codes "id") (λ value. IsTextOfId value o.id)
+  pub leaf : MatchOption (value_of matches (codes "path")) (o.leaf ≡ None) (λ value. (leaf : Leaf) × (o.leaf ≡ Some leaf) × (leaf_named o.kind value ≡ Some leaf))
+
+-- the base URL of the resources, for commands that have no option for it
+abbrev pub default_base : List ℕ
+default_base = codes "http://127.0.0.1:8080"
