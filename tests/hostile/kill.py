@@ -1,16 +1,14 @@
 #!/usr/bin/env python3
 """Kills a server under load again and again, and looks at what its database holds. Nothing acknowledged is lost; a
 request under way is there with its row of the audit, or neither is; the numbers of the rows have no gap."""
-import argparse
 import os
 import random
-import sys
-import tempfile
 import threading
 import time
 
 from changes import Changes, audited, exported
 from server import Server, write_files
+from trials import options, tried
 
 LOAD = (0.02, 0.4)  # seconds between the start and the kill
 
@@ -79,17 +77,10 @@ def run(program, folder, chosen):
 
 
 def main():
-    parser = argparse.ArgumentParser(description=__doc__)
-    parser.add_argument("scimd", help="the program")
-    parser.add_argument("count", nargs="?", type=int, default=200, help="how many kills (default 200)")
+    parser = options(__doc__, "kills", 200)
     parser.add_argument("--connections", type=int, default=6, metavar="N", help="clients at once (default 6)")
-    parser.add_argument("--seed", type=int, default=1, metavar="N", help="another seed makes other requests")
     chosen = parser.parse_args()
-    with tempfile.TemporaryDirectory(prefix="scimd-kill-") as folder:
-        try:
-            answered = run(os.path.abspath(chosen.scimd), folder, chosen)
-        except (OSError, RuntimeError) as fault:
-            sys.exit(f"kill: BAD: {fault}")
+    answered = tried("kill", run, chosen)
     print(f"kill: {chosen.count} kills, {answered} requests answered, none lost")
 
 

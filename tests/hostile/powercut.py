@@ -2,19 +2,17 @@
 """Images of a power cut: strace records what a server writes and syncs while a client changes users. Each image has
 the calls up to a random one; of what was written since the last sync of its file it has any part. It is opened by
 `scimd export` and `scimd audit`. All that was acknowledged is there; what was under way is there, or isn't."""
-import argparse
 import codecs
 import os
 import random
 import re
 import shutil
-import subprocess
 import sys
-import tempfile
 from collections import namedtuple
 
 from changes import Changes, audited, exported
 from server import Client, Server, write_files
+from trials import options, tried
 
 SECTOR = 512
 CALLS = "pwrite64,write,sendto,fsync,fdatasync,ftruncate,unlink"
@@ -181,22 +179,18 @@ def opened(program, folder, files, source, acknowledged, states, rows):
                        f"in place of {len(states[acknowledged])} and {rows[acknowledged]}")
 
 
+def run(program, folder, chosen):
+    """How many images have a request that wasn't acknowledged yet."""
+    return cut(program, folder, chosen, *record(program, folder, chosen))
+
+
 def main():
-    parser = argparse.ArgumentParser(description=__doc__)
-    parser.add_argument("scimd", help="the program")
-    parser.add_argument("count", nargs="?", type=int, default=2_000, help="how many images (default 2000)")
+    parser = options(__doc__, "images", 2_000)
     parser.add_argument("--requests", type=int, default=400, metavar="N", help="requests that are recorded (400)")
-    parser.add_argument("--seed", type=int, default=1, metavar="N", help="another seed makes other images")
     chosen = parser.parse_args()
     if not shutil.which("strace"):
         sys.exit("powercut: needs strace, which isn't on this machine")
-    program = os.path.abspath(chosen.scimd)
-    with tempfile.TemporaryDirectory(prefix="scimd-powercut-") as folder:
-        folder = os.path.realpath(folder)
-        try:
-            ahead = cut(program, folder, chosen, *record(program, folder, chosen))
-        except (OSError, RuntimeError, subprocess.SubprocessError) as fault:
-            sys.exit(f"powercut: BAD: {fault}")
+    ahead = tried("powercut", run, chosen)
     print(f"powercut: {chosen.count} images, all with what was acknowledged, {ahead} with a request under way")
 
 
