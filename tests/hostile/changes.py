@@ -17,6 +17,7 @@ class Changes:
         self.client, self.random = client, random.Random(seed)
         self.users, self.rows = {}, []  # what was answered: users by id, and rows of the audit since the last check
         self.count, self.step = 0, None  # the step is under way
+        self.first_refused = None  # the first step that was answered 500
 
     def message(self):
         """The next request, which is under way from now on."""
@@ -46,6 +47,7 @@ class Changes:
     def answered(self, status, body):
         """Notes the reply to the request under way. A 500 says that nothing was done, and leaves no row."""
         if status == 500:
+            self.first_refused = self.first_refused or self.step
             self.step = None
         elif status not in (200, 201, 204):
             raise RuntimeError(f"{self.client}: status {status}: {body[:300]!r}")

@@ -1,6 +1,7 @@
 #!/usr/bin/env python3
-"""A full disk and a device that fails: what is answered 500 isn't done, what was acknowledged stays, and the server
-goes on. The full disk is a small tmpfs, which only root may mount; the device fails by strace, call by call."""
+"""A full disk and a device that fails: what is answered 500 isn't done (but for a change whose sync fails, which may
+be there after a start), what was acknowledged stays, and the server goes on. The full disk is a small tmpfs, which only
+root may mount; the device fails by strace, call by call."""
 import argparse
 import contextlib
 import os
@@ -80,6 +81,9 @@ def failing(program, folder, failure):
     under = ["strace", "-f", "-o", "/dev/null", "-e", f"trace={failure.split(':')[0]}", "-e", f"inject={failure}"]
     with Server(program, folder, under=under) as server:
         refused = asked(changes, server, 300)
+    if failure.startswith("fdatasync"):
+        # The log has the change whose sync failed, and nobody knows whether the disk has it.
+        changes.step = changes.first_refused
     Server(program, folder).__enter__().kill()
     checked(program, os.path.join(folder, "store.db"), changes)
     print(f"{failure}: {changes.count} requests, {refused} answered 500; nothing acknowledged is lost")
