@@ -1,4 +1,5 @@
 pub mod Documents
+pub mod DocumentReading
 pub mod Found
 pub mod Laws
 pub mod ListData

@@ -18,5 +18,5 @@ pub use laws::{
 };
 pub use list_responses::to_list_json;
 pub use stored_documents::read_stored;
-pub use users_files::read_documents;
+pub use users_files::{DocumentReader, check_documents, read_documents};
 pub use writing::{stored_text, to_json};
