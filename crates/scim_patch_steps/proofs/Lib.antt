@@ -8,8 +8,10 @@ pub mod SoundLemmas
 pub mod SingleLemmas
 pub mod StepLemmas
 pub mod WorkLemmas
+pub mod GroupLemmas
 pub mod ApplyLemmas
 pub mod LengthLemmas
 pub mod LawLemmas
 pub mod OutcomeLemmas
+pub mod GroupStepLemmas
 pub mod Facts

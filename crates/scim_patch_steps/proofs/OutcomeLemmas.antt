@@ -23,7 +23,7 @@ no_rows kind [] e left h = cc
 no_rows kind (s ∷ steps) e left h = cc
 
 -- steps leave the rows of a resource below the base
-steps_sound : (base : List ℕ) (c : Content) → IsSound base c → (steps : List Step) → All (IsStep c.kind) steps
+pub steps_sound : (base : List ℕ) (c : Content) → IsSound base c → (steps : List Step) → All (IsStep c.kind) steps
     → (left : List Row) → all_stepped c.kind steps (Ok (rows c)) ≡ Ok left → (d : Content) × IsSound base d × (d.kind ≡ c.kind) × (d.id ≡ c.id) × (rows d ≡ left)
 steps_sound base c sound [] may left h = (c, sound, refl, refl, cc)
 steps_sound base c sound (Pathless ∷ steps) may left h = absurd (no_rows c.kind steps fault.NoTarget left h)

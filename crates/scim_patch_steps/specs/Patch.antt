@@ -96,8 +96,8 @@ set_in (Of u change) = set_blocks change
 abbrev pub size_during : ℕ → ℕ → List Row → ℕ
 size_during size set vs = size_of vs + size + (length vs + size) * set
 
--- the work of a step in such a patch of rows: its looks at the values of its unit, and the work of passing over
--- the rows of the resource
+-- the work of a step in such a patch of rows: its looks at the values of its unit, and a fixed number for all
+-- else that it does
 abbrev pub step_work : ℕ → ℕ → List Row → Step → ℕ
 step_work size set rs Pathless = 0
 step_work size set rs (Of u change) = looks change * size_during size set (values u rs) + STEP

@@ -6,3 +6,4 @@ pub mod Lengths
 pub mod Outcomes
 pub mod Touched
 pub mod Capped
+pub mod Groups

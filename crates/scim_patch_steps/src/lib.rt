@@ -10,6 +10,7 @@ mod primary_values;
 mod step_effects;
 mod steps;
 mod touched_units;
+mod unit_rows;
 mod work;
 
 pub use applying::apply;

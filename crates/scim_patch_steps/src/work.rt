@@ -30,7 +30,7 @@ const FEW: usize = 8;
 /// The looks that it takes to set a field in a value.
 const SET: usize = 3;
 
-/// The looks that it takes to pass over the rows of a resource with a long list.
+/// The looks that a step counts for all that it does beside looking at its unit's values, with room to spare.
 const STEP: usize = 2_500;
 
 /// The number of whole blocks in an atom. 0 unless it is a text.
@@ -192,8 +192,8 @@ fn size_during(given: usize, set: usize, values: &[Row]) -> usize
     size_of(values).saturating_add(given).saturating_add(grown)
 }
 
-/// The work of a step in such a patch of `part`: its looks at the values of its unit, and the work of passing
-/// over the rows of the resource.
+/// The work of a step in such a patch of `part`: its looks at the values of its unit, and a fixed number for
+/// all else that it does.
 fn step_work(given: usize, set: usize, part: &Part, step: &Step) -> usize
     ensures { (g s : ℕ) → given ≡ capped g → set ≡ capped s
         → result ≡ capped (patches.step_work g s (rows part.now) (step_of step.now)) }
