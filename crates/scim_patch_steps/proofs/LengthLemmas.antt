@@ -27,12 +27,13 @@ use Rattle.scim_patch_values.specs.Matches.{kept, marked, given_primary, is_list
 use Rattle.scim_patch_steps.specs.Changes.{StepChange, Keep, KeepMatches, KeepSubAttribute, Append, Replace, Clear, RemoveListed, AddToMatches, ReplaceMatches, RemoveMatches, AddAtMatches, SetAtMatches, ClearAtMatches, SetEverywhere, ClearEverywhere}
 use Rattle.scim_patch_steps.specs.Table.{row}
 use Rattle.scim_patch_steps.specs.Steps.{is_forbidden, gives_two_primary, settled, judged, after}
-use Rattle.scim_patch_steps.specs.Patch.{Step, Pathless, Of, Patch, AreGivenValues, MayBeMade, IsStep, IsPatch, units_in, stepped, all_stepped, is_unseen_writing, changes}
+use Rattle.scim_patch_steps.specs.Patch.{Step, Pathless, Of, Patch, AreGivenValues, MayBeMade, IsStep, IsPatch, units_in, touched, stepped, all_stepped, is_unseen_writing, changes}
 use Rattle.scim_patch_steps.specs.code.Touched.{is_other}
 use Rattle.scim_patch_steps.specs.code.Lengths.{is_told_by_length, unit_told_among}
 use Rattle.scim_patch_steps.specs.declared.touched_units.Before.{Before}
 use Rattle.scim_patch_steps.specs.declared.touched_units.Before.TheVariants.{Number, Rows}
 use Rattle.scim_patch_steps.specs.code.Before.{IsBefore, tells}
+use Rattle.scim_patch_steps.proofs.UnitLemmas.{rows_alike}
 use Rattle.scim_patch_steps.proofs.ApplyLemmas.{changes_same}
 use Rattle.scim_patch_steps.proofs.Outcomes.{not_refused}
 use Rattle.scim_patch_steps.proofs.SingleLemmas.{kept_left, nothing_left}
@@ -180,4 +181,6 @@ pub tells_change : (p : Patch) (c d : Content) → IsResource c → p.kind ≡ c
 tells_change p c d own of_kind may h (Number u n) is =
     let number = by_steps c own (rows d) u p.steps is.0 (subst (λ k. All (IsStep k) p.steps) of_kind may) h in
     ap (λ b. list_any (is_unseen_writing p.kind) p.steps || b) (ap (λ m. not (length (values u (rows d)) == m)) is.1 ∙ sym number)
-tells_change p c d own of_kind may h (Rows v) is = ap (λ rs. changes p rs (rows d)) is.0 ∙ changes_same p (rows c) (rows d)
+tells_change p c d own of_kind may h (Rows us v) is =
+    let kept = is.1 ∙ rows_alike us.items (touched p) (rows c) is.0 in
+    ap (λ b. list_any (is_unseen_writing p.kind) p.steps || b) (is.0 (is_other v.items (rows d))) ∙ ap (λ rs. changes p rs (rows d)) kept ∙ changes_same p (rows c) (rows d)

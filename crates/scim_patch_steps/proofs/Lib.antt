@@ -10,6 +10,7 @@ pub mod StepLemmas
 pub mod WorkLemmas
 pub mod GroupLemmas
 pub mod ApplyLemmas
+pub mod UnitLemmas
 pub mod LengthLemmas
 pub mod LawLemmas
 pub mod OutcomeLemmas

@@ -7,7 +7,7 @@ ghost use Rattle.scim_patch_steps.specs.Patch as spec;
 ghost use Rattle.scim_patch_steps.specs.Kept.{patch_of, step_of};
 ghost use Rattle.scim_patch_steps.specs.code.Lengths as lengths;
 ghost use Rattle.scim_patch_steps.specs.code.Before.{IsBefore, IsInOrder, tells};
-ghost use Rattle.scim_patch_steps.specs.code.Touched.{is_about, is_other, rows_about};
+ghost use Rattle.scim_patch_steps.specs.code.Touched.{PassTheSame, is_about, is_other, rows_about};
 
 use crate::changes::StepChange;
 use crate::patches::{Patch, Step};
@@ -23,8 +23,8 @@ pub(crate) enum Before {
     /// The only unit of the patch and the number of its values. Used if the number of values afterwards shows
     /// whether the values changed.
     Number(Unit, usize),
-    /// Copies of the rows of the units that the patch names.
-    Rows(Vec<Row>),
+    /// The units that the patch names, each once, and copies of their rows.
+    Rows(Vec<Unit>, Vec<Row>),
 }
 
 impl Patch {
@@ -56,12 +56,27 @@ fn is_one_of(units: &[Unit], unit: Unit) -> bool
     units.iter().any(|other| unit == *other)
 }
 
-/// Copies the rows that belong to one of `units`.
-fn rows_of(alloc: Global, units: &[Unit], rows: &[Row]) -> Result<Vec<Row>, NoMemory>
-    ensures { IfOk result (λ v. v.items ≡ rows_about units.now rows.now) }
+/// Returns the units that the patch names, each once.
+fn distinct_units(alloc: Global, patch: &Patch) -> Result<Vec<Unit>, NoMemory>
+    ensures { IfOk result (λ v. PassTheSame v.items (spec.touched (patch_of patch.now))) }
+{
+    let units = patch.touched(alloc)?;
+    let mut distinct = Vec::new(alloc);
+    for unit in &units {
+        if !is_one_of(distinct.as_slice(), *unit) {
+            push(&mut distinct, *unit)?;
+        }
+    }
+    Ok(distinct)
+}
+
+/// Copies the rows of `part` that belong to one of `units`.
+fn rows_of(alloc: Global, units: &[Unit], part: &Part) -> Result<Vec<Row>, NoMemory>
+    ensures rows { IfOk result (λ v. v.items ≡ rows_about units.now (rows part.now)) }
+    ensures sorted { IfOk result (λ v. AllPairs (λ r s. Precedes r.unit s.unit) v.items) }
 {
     let mut copies = Vec::new(alloc);
-    for row in rows {
+    for row in part.rows() {
         if is_one_of(units, row.unit()) {
             push(&mut copies, row.try_copy(alloc)?)?;
         }
@@ -69,25 +84,19 @@ fn rows_of(alloc: Global, units: &[Unit], rows: &[Row]) -> Result<Vec<Row>, NoMe
     Ok(copies)
 }
 
-/// Copies the rows of `part` that belong to units that the patch names.
-fn touched_rows(alloc: Global, patch: &Patch, part: &Part) -> Result<Vec<Row>, NoMemory>
-    ensures rows { IfOk result (λ v. v.items
-        ≡ rows_about (spec.touched (patch_of patch.now)) (rows part.now)) }
-    ensures sorted { IfOk result (λ v. AllPairs (λ r s. Precedes r.unit s.unit) v.items) }
-{
-    let units = patch.touched(alloc)?;
-    rows_of(alloc, units.as_slice(), part.rows())
-}
-
 /// Returns the data of a part to record before the patch, to detect changes.
 /// This is the number of values if the patch is a single step that only removes values, or only appends
-/// values none of which is primary; otherwise copies of the rows of the units that the patch names.
+/// values none of which is primary; otherwise the units that the patch names and copies of their rows.
 pub(crate) fn before_of(alloc: Global, patch: &Patch, part: &Part) -> Result<Before, NoMemory>
     ensures { IfOk result (IsBefore (patch_of patch.now) (rows part.now)) }
 {
     match unit_told_by_length(patch.steps()) {
         Some(unit) => Ok(Before::Number(unit, part.values(unit).len())),
-        None => Ok(Before::Rows(touched_rows(alloc, patch, part)?)),
+        None => {
+            let units = distinct_units(alloc, patch)?;
+            let rows = rows_of(alloc, units.as_slice(), part)?;
+            Ok(Before::Rows(units, rows))
+        }
     }
 }
 
@@ -125,17 +134,14 @@ fn is_any_unseen_writing(kind: Kind, steps: &[Step]) -> bool
     false
 }
 
-/// Whether `before` and `part` have different values of at least one of the units that the steps name.
-fn is_any_other(steps: &[Step], before: &[Row], part: &Part) -> bool
+/// Whether `before` and `part` have different values of at least one of the units.
+fn is_any_other(units: &[Unit], before: &[Row], part: &Part) -> bool
     requires { AllPairs (λ r s. Precedes r.unit s.unit) before.now }
-    ensures { result ≡ list_any (is_other before.now (rows part.now))
-        (flat_map spec.units_in (map step_of steps.now)) }
+    ensures { result ≡ list_any (is_other before.now (rows part.now)) units.now }
 {
-    for step in steps {
-        if let Step::Of(unit, _) = step {
-            if values_among(before, *unit) != part.values(*unit) {
-                return true;
-            }
+    for unit in units {
+        if values_among(before, *unit) != part.values(*unit) {
+            return true;
         }
     }
     false
@@ -185,7 +191,7 @@ pub(crate) fn is_changed(before: &Before, patch: &Patch, part: &Part) -> bool
 {
     let is_other = match before {
         Before::Number(unit, number) => part.values(*unit).len() != *number,
-        Before::Rows(before) => is_any_other(patch.steps(), before.as_slice(), part),
+        Before::Rows(units, before) => is_any_other(units.as_slice(), before.as_slice(), part),
     };
     is_any_unseen_writing(patch.kind(), patch.steps()) || is_other
 }

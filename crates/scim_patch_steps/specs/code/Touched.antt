@@ -1,5 +1,5 @@
 -- The rows of the units that the steps of a patch name.
-use Rattle.std.specs.Prelude.{Bool, not, List, filter}
+use Rattle.std.specs.Prelude.{◌≡◌, Bool, not, List, filter}
 use Rattle.std.specs.List.{list_any}
 use Rattle.scim_schema.specs.declared.Unit.{Unit as AttributeUnit}
 use Rattle.scim_schema.specs.Units.{is_same_unit}
@@ -17,3 +17,7 @@ rows_about us rs = filter (λ (r : Row). is_about us r.unit) rs
 -- whether the rows before and the rows afterwards have different values of the unit
 abbrev pub is_other : List Row → List Row → AttributeUnit → Bool
 is_other before rs u = not (are_same_values (values u before) (values u rs))
+
+-- the lists have the same units, maybe not equally often: a test that one of either passes, one of the other does
+abbrev pub PassTheSame : List AttributeUnit → List AttributeUnit → Type 0
+PassTheSame us vs = (p : AttributeUnit → Bool) → list_any p us ≡ list_any p vs
