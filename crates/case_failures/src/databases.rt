@@ -7,7 +7,7 @@ ghost use Rattle.std.specs.Prelude.{◌≡◌, false};
 use crate::request_parts::{RequestParts, are_answered};
 use scim_audit::{AuditRow, print_row};
 use scim_cell::Text;
-use scim_json::{read_documents, stored_text};
+use scim_json::stored_text;
 use scim_policy_file::read_policy;
 use scim_samples::{BASE, POLICY, USERS};
 use scim_schema::Kind;
@@ -61,10 +61,7 @@ fn fill<S: Alter>(alloc: Global, connection: Connection<S>) -> (Option<String>, 
     requires { connection.in_transaction ≡ false }
 {
     let mut connection = connection;
-    let Ok(resources) = read_documents(alloc, BASE, USERS) else {
-        return (None, connection);
-    };
-    match import(&mut connection, alloc, BASE, resources.as_slice()) {
+    match import(&mut connection, alloc, BASE, USERS) {
         Ok(()) => (Some(String::new(alloc)), connection),
         Err(_) => (None, connection),
     }

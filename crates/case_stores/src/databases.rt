@@ -6,7 +6,7 @@ use case_values::{Case, CaseFault, text_or_json};
 use scim_json::read_documents;
 use scim_samples::{BASE, USERS};
 use scim_shelf::{CacheContents, MemoryShelf};
-use scim_store::{SqlShelf, import};
+use scim_store::{ImportFault, SqlShelf, import};
 use sqlite::{Alter, Connection};
 
 /// Returns the base URL of the resources of a case: the argument `base`, by default the base URL of the
@@ -35,11 +35,9 @@ pub fn fill<S: Alter>(
     ensures { connection.new.in_transaction ≡ false }
 {
     let users = text_or_json(case, name, USERS)?;
-    let Ok(resources) = read_documents(case.alloc, base_of(case), users.as_str()) else {
-        return Err(StoreFault::Case(CaseFault::Missing(name)));
-    };
-    match import(connection, case.alloc, base_of(case), resources.as_slice()) {
+    match import(connection, case.alloc, base_of(case), users.as_str()) {
         Ok(()) => Ok(()),
+        Err(ImportFault::Users(_)) => Err(StoreFault::Case(CaseFault::Missing(name))),
         Err(_) => Err(StoreFault::NotFilled),
     }
 }

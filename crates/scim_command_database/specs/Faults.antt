@@ -17,12 +17,12 @@ of_opening opening.Store = Database Unusable
 of_opening opening.Device = Database Unusable
 of_opening opening.NoMemory = NoMemory
 
--- the fault of a command for a failed import; `OtherBase` never occurs for a users file
+-- the fault of a command for a failed import
 abbrev pub of_importing : ImportFault → RunFault
+of_importing (importing.Users item) = Users item.0
 of_importing importing.NotEmpty = Database NotEmpty
 of_importing (importing.Database (SqliteFailure OutOfMemory)) = NoMemory
 of_importing (importing.Database error) = Database Unusable
-of_importing importing.OtherBase = Database Unusable
 of_importing importing.NoMemory = NoMemory
 
 -- a command that reads a store and writes a text may return the fault: an unusable database, a failed write,

@@ -1,6 +1,5 @@
 pub mod Audit
 pub mod Explaining
 pub mod Exports
-pub mod Imports
 pub mod Faults
 pub mod code

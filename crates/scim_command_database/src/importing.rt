@@ -9,24 +9,23 @@ ghost use Rattle.scim_shelf.specs.Stores.{Store, IsNewStore};
 ghost use Rattle.scim_store_tables.specs.Reading.{Rests};
 ghost use Rattle.scim_store_tables.specs.Tables.{no_schema};
 ghost use Rattle.scim_store.specs.Committing.{HasStore};
-ghost use Rattle.scim_store.specs.declared.importing.ImportFault.{ImportFault};
+ghost use Rattle.scim_store.specs.Importing.{LeavesUsers};
 ghost use Rattle.scim_command.specs.declared.faults.DatabaseFault.{DatabaseFault};
 ghost use Rattle.scim_command.specs.declared.faults.RunFault.{RunFault};
 ghost use Rattle.scim_command_database.specs.Faults.{IsImportFault, of_importing};
-ghost use Rattle.scim_command_database.specs.Imports.{LeavesUsers};
 
 use scim_command::{DatabaseFault, RunFault};
-use scim_json::read_documents;
+use scim_json::DamagedItem;
 use scim_store::ImportFault;
 use sqlite::{Alter, Connection, Error, ErrorCode};
 use std::alloc::Global;
 
 /// Stores the resources of a users file in an empty database, in one transaction. The audit has no rows
-/// afterwards.
+/// afterwards. One resource at a time is in memory.
 ///
-/// Fails with `Users` if the file is invalid; the database isn't read then. Fails with `NotEmpty` if the
-/// database has a table, an index or a view, and with `Unusable` if it can't be read or written. After an
-/// error the database is unchanged or in the state of the last commit, or the connection is closed.
+/// Fails with `Users` if the file is invalid. Fails with `NotEmpty` if the file is valid, but the database has
+/// a table, an index or a view, and with `Unusable` if the database can't be read or written. After an error
+/// the database is unchanged or in the state of the last commit, or the connection is closed.
 ///
 /// After a crash during the call, the database is in its earlier state, or it has the tables with all
 /// resources of the file. After a crash behind a successful call, it has the tables with all resources of the
@@ -62,22 +61,19 @@ pub fn import<S: Alter>(
         → LeavesUsers base.now users.now (state S.Store connection.old) trees) }
     ensures faults { IfErr result IsImportFault }
 {
-    let resources = read_documents(alloc, base, users)?;
-    match scim_store::import(connection, alloc, base, resources.as_slice()) {
+    match scim_store::import(connection, alloc, base, users) {
         Ok(()) => Ok(()),
         Err(fault) => Err(import_fault(fault)),
     }
 }
 
-/// Returns the error of a command for a failed import. The error `OtherBase` must not occur; for resources of
-/// a users file it never does.
+/// Returns the error of a command for a failed import.
 fn import_fault(fault: ImportFault) -> RunFault
-    requires { fault ≢ ImportFault.OtherBase }
     ensures { result ≡ of_importing fault }
 {
     match fault {
+        ImportFault::Users(DamagedItem(number)) => RunFault::Users(number),
         ImportFault::NotEmpty => RunFault::Database(DatabaseFault::NotEmpty),
-        ImportFault::OtherBase => unreachable!(),
         ImportFault::Database(Error::SqliteFailure(ErrorCode::OutOfMemory)) => RunFault::NoMemory,
         ImportFault::Database(_) => RunFault::Database(DatabaseFault::Unusable),
         ImportFault::NoMemory => RunFault::NoMemory,

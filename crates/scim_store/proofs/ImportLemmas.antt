@@ -1,11 +1,12 @@
 -- The rows of resources that are brought into an empty database.
-use Rattle.std.proofs.Common.{◌≡◌, ℕ, ◌+◌, ◌<◌, refl, sym, ◌∙◌, ap, subst, Bool, true, false, ◌&&◌, List, [], ◌∷◌, ◌++◌, map, filter, length, take, get_or, inr, IsTrue, arith}
-use Rattle.std.specs.Prelude.{All, None, Some, IsPermutation, string_bytes}
+use Rattle.std.proofs.Common.{◌≡◌, ℕ, refl, sym, ◌∙◌, ap, subst, Bool, true, false, ◌&&◌, List, [], ◌∷◌, ◌++◌, map, filter, inr, IsTrue, IsErr, IsErrAnd, IfErr, Result, Ok, Err, arith}
+use Rattle.std.specs.Prelude.{None, Some, IsPermutation, string_bytes}
 use Rattle.std.specs.List.{flat_map}
-use Rattle.std.proofs.lemmas.List.{append-nil, take_more}
-use Rattle.std.proofs.lemmas.List.Elements.{All-nil, All-cons}
+use Rattle.std.proofs.lemmas.List.{append-nil}
+use Rattle.std.proofs.lemmas.List.Elements.{All-nil, All-cons, All-contains, Contains-push}
 use Rattle.std.proofs.lemmas.List.Sorted.{IsPermutation-refl, IsPermutation-cons, IsPermutation-middle, IsPermutation-trans, IsPermutation-sym, IsPermutation-map, All-permutation}
 use Rattle.sqlite_trees.proofs.ListLemmas.{IsPermutation-same, IsPermutation-flat_map, map-map, pull_back}
+use Rattle.sqlite.specs.declared.transaction.Transaction.{Transaction}
 use Rattle.sqlite.specs.Effect.{Database}
 use Rattle.sqlite.specs.State.{State, HasCleanDisk, IsLive, Survives}
 use Rattle.sqlite.specs.Tree.{Trees}
@@ -13,18 +14,29 @@ use Rattle.sqlite.specs.Held.{Held, state}
 use Rattle.sqlite.proofs.Callers.{survives_begin}
 use Rattle.sqlite.proofs.StateLemmas.{survives_then, survives_weaker}
 use Rattle.sqlite_trees.specs.declared.store.Store.{Ghosts}
+use Rattle.scim_text.specs.Failures.{IfBecause}
+use Rattle.scim_text.specs.declared.memory.Failed.{Failed}
+use Rattle.scim_text.specs.declared.memory.Failed.TheVariants as failed
 use Rattle.scim_cell.specs.Content.{Content}
 use Rattle.scim_value.specs.Resource.{HasBase}
+use Rattle.scim_json.specs.Stored.{IsResourceBelow}
+use Rattle.scim_json.specs.Documents.{IsDocumentsText, IsDamagedAt}
+use Rattle.scim_json.specs.declared.faults.DamagedItem.{DamagedItem}
+use Rattle.scim_json.specs.DocumentReading.{HasRead}
+use Rattle.scim_json.specs.declared.users_files.DocumentReader.{DocumentReader}
 use Rattle.scim_value.specs.Uniqueness.{name_of, unique_names}
 use Rattle.scim_shelf.specs.Stores.{Store, IsNewStore}
 use Rattle.scim_store_tables.specs.Lists.{Lists, Are, no_rows, resource_values}
 use Rattle.scim_store_tables.specs.Reading.{Rests}
-use Rattle.scim_store_tables.specs.Steps.{Became, Undoes, Leaves}
+use Rattle.scim_store_tables.specs.Steps.{DoesIn, Became, Undoes, Leaves}
 use Rattle.scim_store_tables.specs.Tables.{no_schema}
+use Rattle.scim_store_tables.proofs.Facts.{HasDone}
 use Rattle.scim_store.specs.declared.edits.Edits.{Edits}
 use Rattle.scim_store_rows.specs.Audit.{kind_number}
 use Rattle.scim_store.specs.Edits.{rows_of_names, rows_of_members, rows_of_document, Replaces}
-use Rattle.scim_store.specs.Importing.{HoldRowsOf, Fills, LeavesImported, HasImported}
+use Rattle.scim_store.specs.declared.importing.ImportFault.{ImportFault}
+use Rattle.scim_store.specs.code.Importing.{IsFillFault}
+use Rattle.scim_store.specs.Importing.{of_reading, HoldRowsOf, HoldUsers, Fills, LeavesUsers, HasImported}
 use Rattle.scim_store_rows.specs.Stands.{Entry, StandsFor, IsEntry, lists_of, resource_row, name_row, name_rows, member_rows}
 use Rattle.scim_store.proofs.RowLemmas.{reordered}
 use Rattle.scim_store.proofs.NewStoreLemmas.{holds_new}
@@ -71,19 +83,34 @@ pub hold_reordered : (base : List ℕ) (cs ds : List Content) (db : Database) �
 hold_reordered base cs ds db same hold = record { entries = hold.entries; resources = IsPermutation-trans _ _ _ hold.resources same; sound = hold.sound; tables = hold.tables }
 
 -- one more of the resources, behind those so far
-pub hold_next : (base : List ℕ) (cs : List Content) (i : ℕ) (c : Content) (db : Database) → i < length cs → c ≡ get_or cs i c → HoldRowsOf base (c ∷ take i cs) db → HoldRowsOf base (take (i + 1) cs) db
-hold_next base cs i c db low is =
-    let front : take (i + 1) cs ≡ take i cs ++ c ∷ [] = take_more cs i c low ∙ ap (λ d. take i cs ++ d ∷ []) (sym is) in
-    let moved : IsPermutation (c ∷ take i cs) (take i cs ++ c ∷ []) =
-    IsPermutation-sym _ _ (IsPermutation-trans _ _ _ (IsPermutation-middle (take i cs) c []) (IsPermutation-same _ _ (ap (λ l. c ∷ l) (append-nil (take i cs))))) in
-    hold_reordered base (c ∷ take i cs) (take (i + 1) cs) db (IsPermutation-trans _ _ _ moved (IsPermutation-same _ _ (sym front)))
+pub hold_behind : (base : List ℕ) (cs : List Content) (c : Content) (db : Database) → HoldRowsOf base (c ∷ cs) db → HoldRowsOf base (cs ++ c ∷ []) db
+hold_behind base cs c db =
+    let moved : IsPermutation (c ∷ cs) (cs ++ c ∷ []) =
+    IsPermutation-sym _ _ (IsPermutation-trans _ _ _ (IsPermutation-middle cs c []) (IsPermutation-same _ _ (ap (λ l. c ∷ l) (append-nil cs)))) in
+    hold_reordered base (c ∷ cs) (cs ++ c ∷ []) db moved
+
+-- the resource that a reader has read last stands below the base
+pub read_below : (base users : List ℕ) (cs : List Content) (c : Content) (r : DocumentReader) → HasRead base users (cs ++ c ∷ []) r → HasBase base c
+read_below base users cs c r read = (All-contains (IsResourceBelow base) (cs ++ c ∷ []) c read.have.below.below (Contains-push cs c)).1
+
+-- ---- a fault behind steps that succeeded
+
+pub stops : {S T E : Type 0} (g : Ghosts S) (a b : Transaction S) (r : Result T E) (P Q : Database → Database → Type 0) → HasDone g a b P → IsErr r → DoesIn g a b r Q
+stops g a b (Ok y) P Q did fails = absurd cc
+stops g a b (Err f) P Q did fails = record { same_reference = did.same_reference; went = λ clean inside. tt; kept = did.kept; survives = did.survives }
+
+-- a file that can't be read is damaged at the item that is told
+pub fault_read : {T : Type 0} (base users : List ℕ) (r : Result T ImportFault) (e : Failed DamagedItem) → IsErrAnd r (λ f. f ≡ of_reading e) → IfBecause (λ item. IsDamagedAt base users item.0) e → IfErr r (IsFillFault base users)
+fault_read base users (Ok x) e is damaged = tt
+fault_read base users (Err f) (failed.Because item) is damaged = subst (IsFillFault base users) (sym is) damaged
+fault_read base users (Err f) failed.NoMemory is damaged = subst (IsFillFault base users) (sym is) tt
 
 -- ---- what a crash leaves
 
 -- a transaction that fills the database, and its commit
-pub fill_survives : {S : Type 0} (g : Ghosts S) (cs : List Content) (old : Held S) (last end : State) → Survives (state g (record old { in_transaction = true })) last (λ _. ⊥) → (HasCleanDisk last → Fills cs (state g old).now last.now)
-    → Survives last end (λ trees. trees ≡ last.now.trees) → Survives (state g old) end (Leaves (Fills cs) (state g old).now)
-fill_survives g cs old last end filled ran commits =
+pub fill_survives : {S : Type 0} (g : Ghosts S) (base users : List ℕ) (old : Held S) (last end : State) → Survives (state g (record old { in_transaction = true })) last (λ _. ⊥) → (HasCleanDisk last → Fills base users (state g old).now last.now)
+    → Survives last end (λ trees. trees ≡ last.now.trees) → Survives (state g old) end (Leaves (Fills base users) (state g old).now)
+fill_survives g base users old last end filled ran commits =
     survives_then (state g old) last end _ _ _ (λ _ trees none. absurd none) (λ clean trees is. (last.now, is, ran (omega (arith, commits.clean)))) (survives_begin g old last _ filled) commits
 
 -- ---- a new store
@@ -101,22 +128,27 @@ stands_new base cs db store hold new =
           (reordered db _ _ hold.tables (IsPermutation-map resource_row _ _ pulled.1) (IsPermutation-flat_map name_rows _ _ pulled.1) (IsPermutation-flat_map member_rows _ _ pulled.1) (IsPermutation-refl _));
     }
 
-module _ (base : List ℕ) (cs : List Content) (old new : State) (empty : old.now.schema ≡ no_schema) (below : All (HasBase base) cs) where
-  pub import_made : IsLive new → Became old new (Fills cs) → HasImported base cs old new
+-- what a crash may leave of the tables with all resources of a users file
+leaves_users : (base users : List ℕ) (old : State) (db : Database) (trees : Trees) → old.now.schema ≡ no_schema → trees ≡ db.trees → HoldUsers base users db → LeavesUsers base users old trees
+leaves_users base users old db trees empty is held = (held.0, held.1, (empty, (db, is, held.2, λ store new. stands_new base held.0 db store held.2 new)))
+
+module _ (base users : List ℕ) (old new : State) (empty : old.now.schema ≡ no_schema) where
+  pub import_made : IsLive new → Became old new (Fills base users) → (cs : List Content) × IsDocumentsText base users cs × HasImported base cs old new
   import_made live became =
-      let hold = became.changed empty base below in
-      let made = holds_new base cs new.now (live became.is_open).0 hold in
-      record { was_empty = empty; is_open = became.is_open; settled = became.settled; store = made.0; is_new = made.1; stands = stands_new base cs new.now made.0 hold made.1 }
+      let held = became.changed empty in
+      let made = holds_new base held.0 new.now (live became.is_open).0 held.2 in (
+        held.0,
+        held.1,
+        record { was_empty = empty; is_open = became.is_open; settled = became.settled; store = made.0; is_new = made.1; stands = stands_new base held.0 new.now made.0 held.2 made.1 },
+      )
 
   -- the law is the store's: what a crash leaves of an open one is its last commit
-  pub import_lasts : ((trees : Trees) → IsTrue new.is_open → new.may_leave trees → trees ≡ new.committed.trees) → Became old new (Fills cs) → (trees : Trees) → new.may_leave trees → LeavesImported base cs old trees
+  pub import_lasts : ((trees : Trees) → IsTrue new.is_open → new.may_leave trees → trees ≡ new.committed.trees) → Became old new (Fills base users) → (trees : Trees) → new.may_leave trees → LeavesUsers base users old trees
   import_lasts law became trees left =
-      let hold = became.changed empty base below in
-      (empty, (new.now, law trees became.is_open left ∙ ap (λ (db : Database). db.trees) (sym became.settled), hold, λ store is. stands_new base cs new.now store hold is))
+      leaves_users base users old new.now trees empty (law trees became.is_open left ∙ ap (λ (db : Database). db.trees) (sym became.settled)) (became.changed empty)
 
-  pub import_survives : Survives old new (Leaves (Fills cs) old.now) → Survives old new (LeavesImported base cs old)
-  import_survives = survives_weaker old new _ _ (λ _ trees leaves.
-      (let hold = leaves.2 empty base below in (empty, (leaves.0, leaves.1, hold, λ store is. stands_new base cs leaves.0 store hold is))))
+  pub import_survives : Survives old new (Leaves (Fills base users) old.now) → Survives old new (LeavesUsers base users old)
+  import_survives = survives_weaker old new _ _ (λ _ trees leaves. leaves_users base users old leaves.0 trees empty leaves.1 (leaves.2 empty))
 
 pub rests_undone : (old new : State) → Undoes old new → Rests old new
 rests_undone old new undoes = record { was_open = undoes.was_open; now = λ o. inr (undoes.now o); committed = undoes.committed }

@@ -61,7 +61,7 @@ impl From<NoMemory> for CommitFault {
 }
 
 /// Whether the location of the resource is below the base URI.
-pub(crate) fn is_below(alloc: Global, base: &str, resource: &Resource) -> Result<bool, NoMemory>
+fn is_below(alloc: Global, base: &str, resource: &Resource) -> Result<bool, NoMemory>
     ensures { IfOk result (λ below. IsTrue below ↔ HasBase base.now resource.now) }
 {
     let expected = location(alloc, base, resource.kind(), resource.id())?;

@@ -5,7 +5,7 @@ use scim_command::{
     FileKind, ImportOptions, RunFault, find_file, policy_at, read_file,
 };
 use scim_command_database::{DatabaseWork, Explaining, Importing, Question, unopened};
-use scim_json::read_documents;
+use scim_json::check_documents;
 use scim_store_tables::foreign_object;
 use sqlite::{Alter, Connection};
 
@@ -93,7 +93,7 @@ pub(crate) fn run_export(rt: &HostRuntime, matches: &ArgMatches<'_>) -> Result<(
 pub(crate) fn run_import(rt: &HostRuntime, matches: &ArgMatches<'_>) -> Result<(), CommandFault> {
     let options = ImportOptions::of(matches)?;
     let users = read_file(rt, FileKind::Users, options.users)?;
-    if let Err(fault) = read_documents(rt.alloc(), DEFAULT_BASE, users.as_str()) {
+    if let Err(fault) = check_documents(rt.alloc(), DEFAULT_BASE, users.as_str()) {
         return Err(CommandFault::Run(fault.into()));
     }
     with_database(rt, options.database, Importing(users.as_str()))

@@ -13,9 +13,9 @@ returns-in_err-commit-clause-crash g c =
     let end = c.commit.new.self.0 in
     let begun = c.transaction-tx.ensures.begun in
     let ran = λ (clean : HasCleanDisk (state g.S.Store last)). let inside = (rw begun at c.in_ok-make_store.ensures.does.went) clean refl in inside.1 in
-    let whole = fill_survives g.S.Store c.args.resources.now old (state g.S.Store last) (state g.S.Store end) (rw begun at c.make_store.ensures.does.survives) ran c.commit.ensures.survives in
+    let whole = fill_survives g.S.Store c.args.base.now c.args.users.now old (state g.S.Store last) (state g.S.Store end) (rw begun at c.make_store.ensures.does.survives) ran c.commit.ensures.survives in
     let same : end ≡ c.conn-2-1.given.0 = search rules in
-    subst (λ h. Survives (state g.S.Store old) (state g.S.Store h) (Leaves (Fills c.args.resources.now) (state g.S.Store old).now)) same whole
+    subst (λ h. Survives (state g.S.Store old) (state g.S.Store h) (Leaves (Fills c.args.base.now c.args.users.now) (state g.S.Store old).now)) same whole
 
 pub returns-clause-crash : goal.returns-clause-crash
 returns-clause-crash g c =
@@ -24,6 +24,6 @@ returns-clause-crash g c =
     let end = c.commit.new.self.0 in
     let begun = c.transaction-tx.ensures.begun in
     let ran = λ (clean : HasCleanDisk (state g.S.Store last)). let inside = (rw begun at c.in_ok-make_store.ensures.does.went) clean refl in inside.1 in
-    let whole = fill_survives g.S.Store c.args.resources.now old (state g.S.Store last) (state g.S.Store end) (rw begun at c.make_store.ensures.does.survives) ran c.commit.ensures.survives in
+    let whole = fill_survives g.S.Store c.args.base.now c.args.users.now old (state g.S.Store last) (state g.S.Store end) (rw begun at c.make_store.ensures.does.survives) ran c.commit.ensures.survives in
     let same : end ≡ c.conn-2-1.given.0 = search rules in
-    subst (λ h. Survives (state g.S.Store old) (state g.S.Store h) (Leaves (Fills c.args.resources.now) (state g.S.Store old).now)) same whole
+    subst (λ h. Survives (state g.S.Store old) (state g.S.Store h) (Leaves (Fills c.args.base.now c.args.users.now) (state g.S.Store old).now)) same whole
