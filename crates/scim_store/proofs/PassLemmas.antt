@@ -1,6 +1,6 @@
 -- The rows that one pass finds in order are those of resources, which the visitor took.
 use Rattle.std.proofs.Common.{◌≡◌, ℕ, refl, sym, ◌∙◌, ap, subst, List, [], ◌∷◌, ◌++◌, map, drop, length, arith}
-use Rattle.std.specs.Prelude.{All, Option, None, Some, IsPermutation}
+use Rattle.std.specs.Prelude.{All}
 use Rattle.std.specs.Ordering.{nat_cmp}
 use Rattle.std.specs.declared.cmp.Ordering.TheVariants.{Less}
 use Rattle.std.specs.Cmp.Lexicographic.{slice_cmp}
@@ -10,13 +10,12 @@ use Rattle.std.proofs.lemmas.Cmp.{nat_list_cmp_total}
 use Rattle.std.proofs.lemmas.Fn.{FoldsTo-push}
 use Rattle.std.proofs.lemmas.List.{map-append, append-nil, append_assoc, drop_all}
 use Rattle.std.proofs.lemmas.List.Elements.{All-nil, All-cons, All-append, All-head, All-tail, All-weaker}
-use Rattle.std.proofs.lemmas.Map.Keys.{sorted_head, sorted_tail}
 use Rattle.std.proofs.lemmas.Grind.{flat_map-append}
 use Rattle.sqlite_trees.proofs.ListLemmas.{IsPermutation-same, map-map, map-flat_map, all-append, all_weaker}
 use Rattle.sqlite.specs.Effect.{Database}
 use Rattle.sqlite.specs.Order.{Row}
 use Rattle.scim_cell.specs.Content.{Content}
-use Rattle.scim_cell.specs.Ids.{IsId, id_text}
+use Rattle.scim_cell.specs.Ids.{IsId}
 use Rattle.scim_cell.specs.Order.{id_cmp}
 use Rattle.scim_json.specs.Stored.{IsDocumentText}
 use Rattle.scim_shelf.specs.declared.copies.CacheContents.{CacheContents}
@@ -24,7 +23,6 @@ use Rattle.scim_shelf.specs.Caches.{Caches, HasCached}
 use Rattle.scim_shelf.specs.Stores.{Store}
 use Rattle.scim_shelf.proofs.Facts.{cached_all}
 use Rattle.scim_value.specs.Uniqueness.{unique_names}
-use Rattle.scim_store_tables.specs.Lists.{resource_values}
 use Rattle.scim_store_tables.specs.Reading.{shown, owner_first, group_first}
 use Rattle.scim_store_tables.specs.Whole.{AreRowsOf as AreRead}
 use Rattle.scim_store_tables.specs.declared.database_kinds.TableRows.{TableRows}
@@ -32,9 +30,8 @@ use Rattle.scim_store_tables.proofs.Facts.{order_rising, rows_of}
 use Rattle.scim_store_rows.specs.Stands.{Entry, IsEntry, StandsFor, resource_row, name_row, name_rows, member_row, member_rows, lists_of}
 use Rattle.scim_store_rows.proofs.Facts.{contents, resources_rise}
 use Rattle.scim_store.specs.declared.passing.Passed.{Passed}
-use Rattle.scim_store.specs.Damage.{Tables, AreThoseOf, is_shared}
+use Rattle.scim_store.specs.Damage.{Tables, is_shared}
 use Rattle.scim_store.specs.Opening.{resource_tables, HasCopied}
-use Rattle.scim_store.specs.code.Damage.{IsRowOf, HasRows, owned_name, owned_member}
 use Rattle.scim_store.specs.code.Passing.{IsAbove, IsAtEnd, Passes, PassesAll, ShowsSound}
 use Rattle.scim_store.proofs.DamageLemmas.{same_document}
 use Rattle.scim_store.proofs.HoldLemmas.{once_rising}
