@@ -9,6 +9,7 @@ MOST_BYTES = 1_048_576
 OPERATIONS = 1_000
 MOST_WORK = 25_000_000
 STEP_WORK = 2_500
+LISTS = ["emails", "phoneNumbers", "ims", "photos", "entitlements", "roles"]
 
 
 def spaced(path):
@@ -80,6 +81,18 @@ def added_and_removed(size):
     return body_of(list(itertools.chain.from_iterable(steps)))
 
 
+def locales(size, spared=0):
+    """Cheap steps, as many as are within the limit on the work of a PATCH; some of it may be spared."""
+    return keys(itertools.islice(spaced("locale"), (MOST_WORK - spared) // STEP_WORK), "t")
+
+
+def lists_and_locales(size):
+    """A step at each list of a user, which adds what is there, and then cheap steps."""
+    same = [{"op": "add", "path": name, "value": [{"value": "v1"}]} for name in LISTS]
+    spared = len(LISTS) * (3 * size + STEP_WORK)
+    return body_of(same + json.loads(locales(size, spared))["Operations"])
+
+
 # Messages with as many steps as fit, most of which are refused for their work.
 MESSAGES = [
     ("keys emails[not(not(.. value co ..", "Users", nots),
@@ -99,6 +112,8 @@ WITHIN = [
     ("within the limit: adding what is there", "Users", lambda size: adds(size, within(2 * size, 9))),
     ("within the limit: replace", "Users", lambda size: replaces(size, within(size, 11))),
     ("within the limit: 48 terms", "Groups", lambda size: removes(size, within(size, 49))),
+    ("within the limit: locale beside six long lists", "Wide", locales),
+    ("within the limit: six long lists and locale", "Wide", lists_and_locales),
 ]
 
 
@@ -109,8 +124,23 @@ def plain(size):
                                                                   for number in range(size)]}])
 
 
-def prepare(lab, server):
-    """A user and a group with long lists, and the user whom another client reads."""
+def wide(server, size):
+    """A user with six long lists, which no body holds at once."""
+    values = [{"value": f"v{number}"} for number in range(size)]
+    user = server.create({"schemas": [USER], "userName": "wide", **{name: values for name in LISTS[:3]}})
+    rest = body_of([{"op": "add", "path": name, "value": values} for name in LISTS[3:]])
+    client = server.connect()
+    status, body = client.ask(request("PATCH", f"/Users/{user}", "writer", rest))
+    client.close()
+    if status != 200:
+        raise RuntimeError(f"status {status} for a PATCH: {body[:300]!r}")
+    return user
+
+
+def prepare(lab, server, kind):
+    """A user and a group with long lists, or a user with several, and the user whom another client reads."""
+    if kind == "Wide":
+        return {"Wide": wide(server, lab.sizes.values), "other": somebody(server)}
     size = lab.sizes.values
     emails = [{"value": f"e{number}"} for number in range(size)]
     members = [{"value": f"m{number}"} for number in range(size)]
@@ -132,8 +162,9 @@ def patches(lab):
 
 def one_patch(lab, server, kind, make, client, status):
     """Processor seconds for a PATCH, and another client's longest GET meanwhile."""
-    ids = prepare(lab, server)
+    ids = prepare(lab, server, kind)
     body = make(lab.sizes.values)
     assert len(body) <= MOST_BYTES
-    message = request("PATCH", f"/{kind}/{ids[kind]}", client, body)
+    endpoint = "Users" if kind == "Wide" else kind
+    message = request("PATCH", f"/{endpoint}/{ids[kind]}", client, body)
     return watched(server, ids["other"], lambda: least(server, message, status, 1))
