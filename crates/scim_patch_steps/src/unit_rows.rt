@@ -13,7 +13,7 @@ use scim_schema::Unit;
 use scim_text::NoMemory;
 use std::alloc::Global;
 
-/// The values of one unit.
+/// A group: the rows of one unit.
 #[derive(Drop)]
 pub(crate) struct UnitRows {
     pub(crate) unit: Unit,
@@ -52,6 +52,7 @@ pub(crate) fn grouped(alloc: Global, rows: Vec<Row>) -> Result<Vec<UnitRows>, No
 {
     let mut rows = rows;
     let mut groups = Vec::new(alloc);
+    // The last group first: so each row is moved once.
     while let Some(last) = rows.last() {
         let unit = last.unit();
         let start = start_of(rows.as_slice(), unit);
