@@ -6,10 +6,15 @@ use Rattle.scim_policy.specs.Rules.{Rule}
 use Rattle.scim_explain.specs.Explain.{explained}
 use Rattle.scim_explain.specs.Tables.{table}
 use Rattle.scim_explain.specs.Texts.{explanation_text}
+use Rattle.scim_command.specs.declared.explain_options.ExplainOptions.{ExplainOptions}
 use Rattle.scim_command.specs.declared.faults.DatabaseFault.TheVariants.{Unusable}
 use Rattle.scim_command.specs.declared.faults.RunFault.{RunFault}
 use Rattle.scim_command.specs.declared.faults.RunFault.TheVariants.{Absent, Database, Output, NoMemory}
 use Rattle.scim_command_database.specs.declared.explaining.Question.{Question}
+
+-- the question that options of `explain` ask
+abbrev pub question_of : ExplainOptions → Question
+question_of o = record { client = o.client; op = o.op; kind = o.kind; id = o.id; leaf = o.leaf }
 
 -- the explanation of the decision on a leaf; or, without a leaf, the table of the decisions on all leaves
 abbrev pub told_at : Option Leaf → List Rule → Question → Content → List ℕ

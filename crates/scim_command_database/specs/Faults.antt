@@ -3,11 +3,17 @@ use Rattle.scim_store.specs.declared.sql_shelf.OpenFault.{OpenFault}
 use Rattle.scim_store.specs.declared.sql_shelf.OpenFault.TheVariants as opening
 use Rattle.scim_store.specs.declared.importing.ImportFault.{ImportFault}
 use Rattle.scim_store.specs.declared.importing.ImportFault.TheVariants as importing
+use Rattle.sqlite.specs.declared.error.Error.{Error}
 use Rattle.sqlite.specs.declared.error.Error.TheVariants.{SqliteFailure}
 use Rattle.sqlite.specs.declared.error.ErrorCode.TheVariants.{OutOfMemory}
 use Rattle.scim_command.specs.declared.faults.DatabaseFault.TheVariants.{WrongVersion, Damaged, Unusable, NotEmpty}
 use Rattle.scim_command.specs.declared.faults.RunFault.{RunFault}
 use Rattle.scim_command.specs.declared.faults.RunFault.TheVariants.{Users, Database, Output, NoMemory}
+
+-- the fault of a command for an error that connecting to a database returned
+abbrev pub of_connecting : Error → RunFault
+of_connecting (SqliteFailure OutOfMemory) = NoMemory
+of_connecting _ = Database Unusable
 
 -- the fault of a command for a database that can't be opened
 abbrev pub of_opening : OpenFault → RunFault

@@ -35,8 +35,12 @@ pub struct Question<'a> {
 }
 
 impl<'a> Question<'a> {
+    ghost use Rattle.scim_command_database.specs.Explaining.{question_of};
+
     /// Returns the question that the options ask.
-    pub fn of(options: &ExplainOptions<'a>) -> Question<'a> {
+    pub fn of(options: &ExplainOptions<'a>) -> Question<'a>
+        ensures { result ≡ question_of options.now }
+    {
         Question {
             client: options.client,
             op: options.op,

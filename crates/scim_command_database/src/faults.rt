@@ -1,6 +1,6 @@
 //! Converts errors of a database to errors of a command.
 ghost use Rattle.std.specs.Prelude.{◌≡◌};
-ghost use Rattle.scim_command_database.specs.Faults.{of_opening};
+ghost use Rattle.scim_command_database.specs.Faults.{of_connecting, of_opening};
 
 use scim_command::{DatabaseFault, RunFault};
 use scim_store::OpenFault;
@@ -18,8 +18,11 @@ pub(crate) fn open_fault(fault: OpenFault) -> RunFault
     }
 }
 
-/// Returns the error of a command for a database connection that can't be opened.
-pub fn unopened(error: Error) -> RunFault {
+/// Returns the error of a command for a database connection that can't be opened: `NoMemory` if memory ran
+/// out, and otherwise `Database`, as unusable.
+pub fn unopened(error: Error) -> RunFault
+    ensures { result ≡ of_connecting error }
+{
     match error {
         Error::SqliteFailure(ErrorCode::OutOfMemory) => RunFault::NoMemory,
         _ => RunFault::Database(DatabaseFault::Unusable),
