@@ -2,4 +2,5 @@ pub mod Audit
 pub mod Explaining
 pub mod Exports
 pub mod Faults
+pub mod Works
 pub mod code

@@ -1,8 +1,11 @@
 //! The command `audit`: prints rows of the audit, one per line.
 ghost use Rattle.std.specs.Prelude.{◌≡◌, ◌≢◌, ◌≤◌, ◌+◌, ◌^◌, Err, IfOk, IfErr, OnOk, length, string_bytes};
 ghost use Rattle.std.specs.Io.KnownBytes.{Appends};
+ghost use Rattle.sqlite.specs.Held.{state};
 ghost use Rattle.scim_shelf.specs.Shelves.{Answers, KeepsStore};
 ghost use Rattle.scim_shelf.specs.Stores.{Store};
+ghost use Rattle.scim_store_tables.specs.Reading.{Spares};
+ghost use Rattle.scim_store.specs.SqlShelves.{connection_of};
 ghost use Rattle.scim_wire.specs.Streams.{AppendsFront};
 ghost use Rattle.scim_command.specs.declared.faults.RunFault.{RunFault};
 ghost use Rattle.scim_command_database.specs.Audit as spec;
@@ -43,6 +46,8 @@ pub fn print_audit<S: Alter, W: Write>(
     ensures store { KeepsStore ⟦<SqlShelf<S> as Shelf>⟧.stands shelf.old shelf.new }
     ensures honest { ⟦<SqlShelf<S> as Shelf>⟧.is_honest shelf.new
         → ⟦<SqlShelf<S> as Shelf>⟧.is_honest shelf.old }
+    ensures spares { Spares (state S.Store (connection_of shelf.old))
+        (state S.Store (connection_of shelf.new)) }
     ensures faults { IfErr result IsDatabaseFault }
 {
     let text = audit_text(alloc, shelf, from, count)?;
@@ -64,6 +69,8 @@ fn audit_text<S: Alter>(
     ensures store { KeepsStore ⟦<SqlShelf<S> as Shelf>⟧.stands shelf.old shelf.new }
     ensures honest { ⟦<SqlShelf<S> as Shelf>⟧.is_honest shelf.new
         → ⟦<SqlShelf<S> as Shelf>⟧.is_honest shelf.old }
+    ensures spares { Spares (state S.Store (connection_of shelf.old))
+        (state S.Store (connection_of shelf.new)) }
     ensures fault { IfErr result IsOfShelf }
 {
     let rows = shelf.audit_rows(alloc, from, count)?;

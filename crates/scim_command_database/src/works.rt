@@ -1,5 +1,16 @@
 //! Runs each command on a connection to a database, and returns the connection to be closed.
-ghost use Rattle.std.specs.Prelude.{◌≡◌, false};
+ghost use Rattle.std.specs.Prelude.{◌≡◌, ◌≢◌, ◌⊎◌, ℕ, [], false, IfOk, IfErr, IsTrue};
+ghost use Rattle.sqlite.specs.Held.{state};
+ghost use Rattle.sqlite.specs.State.{HasCleanDisk, Survives};
+ghost use Rattle.scim_shelf.specs.Caches.{HasCached, HasKeyed, lower_of};
+ghost use Rattle.scim_shelf.specs.Shelves.{KeepsStore};
+ghost use Rattle.scim_shelf.specs.Stores.{Store};
+ghost use Rattle.scim_store.specs.Shelves.{HasOpened, LeavesBegun, Opens};
+ghost use Rattle.scim_store.specs.SqlShelves.{base_of, connection_of, rows_of};
+ghost use Rattle.scim_command.specs.declared.command_faults.CommandFault.{CommandFault};
+ghost use Rattle.scim_command.specs.declared.faults.DatabaseFault.{DatabaseFault};
+ghost use Rattle.scim_command.specs.declared.faults.RunFault.{RunFault};
+ghost use Rattle.scim_command_database.specs.Works.{FailsToOpen, KeepsStoreOf, program_result};
 
 use crate::auditing::print_audit;
 use crate::explaining::{Question, explain};
@@ -20,14 +31,29 @@ use std::io::Write;
 /// [`DatabaseWork::over`] is generic in the database's storage and returns the connection. So only one
 /// function has to be proved with a connection to the system's files; that proof takes a minute.
 pub trait DatabaseWork {
+    ghost use Rattle.std.specs.Prelude.{List, Option, Result, OnOk};
+    ghost use Rattle.sqlite.specs.State.{State};
+
+    /// The relation between the command, the database before and after it, its result, and the writer's
+    /// contents before and after. By default it says nothing.
+    ghost does: { Self → State → State → Result (Unit {0}) CommandFault → Option (List ℕ) → Option (List ℕ) → Type 0 } = { λ _ _ _ _ _ _. Unit {0} };
+
     /// Runs the command on the connection, writes its output, and returns the connection with the result.
+    ///
+    /// After Ok the connection is in no transaction. Unless the error is `Output`, nothing is written on an
+    /// error.
     fn over<S: Alter + Drop, W: Write>(
         self,
         alloc: Global,
         connection: Connection<S>,
         writer: &mut W,
     ) -> (Result<(), CommandFault>, Connection<S>)
-        requires { connection.in_transaction ≡ false };
+        requires { connection.in_transaction ≡ false }
+        ensures done { does self (state S.Store connection) (state S.Store result.1) result.0
+            (W.contents writer.old) (W.contents writer.new) }
+        ensures idle { OnOk result.0 (result.1.in_transaction ≡ false) }
+        ensures silent { IfErr result.0 (λ f. f ≢ CommandFault.Run RunFault.Output
+            → writer.new ≡ writer.old) };
 }
 
 /// The command `explain`: explains the policy's decisions.
@@ -38,6 +64,12 @@ pub struct Explaining<'a> {
 }
 
 impl DatabaseWork for Explaining<'_> {
+    ghost use Rattle.scim_command.specs.Options.{default_base};
+    ghost use Rattle.scim_command_database.specs.Explaining.{IsExplainFault};
+    ghost use Rattle.scim_command_database.specs.Works.{Explains, Reads};
+
+    ghost does = { λ work old new result before after. Reads default_base IsExplainFault (Explains work.policy work.question before after) old new result };
+
     fn over<S: Alter + Drop, W: Write>(
         self,
         alloc: Global,
@@ -57,6 +89,15 @@ impl DatabaseWork for Explaining<'_> {
 
 /// The command `audit`: writes rows of the audit.
 impl DatabaseWork for AuditOptions<'_> {
+    ghost use Rattle.sqlite.specs.State.{Survives};
+    ghost use Rattle.scim_store.specs.Shelves.{LeavesBegun};
+    ghost use Rattle.scim_command.specs.Options.{default_base};
+    ghost use Rattle.scim_command_database.specs.Audit.{audit_text};
+    ghost use Rattle.scim_command_database.specs.Faults.{IsDatabaseFault};
+    ghost use Rattle.scim_command_database.specs.Works.{Reads, Writes};
+
+    ghost does = { λ work old new result before after. Reads default_base IsDatabaseFault (λ done store. Writes before after (audit_text work.from work.count store.audit) done) old new result × Survives old new (LeavesBegun default_base old) };
+
     fn over<S: Alter + Drop, W: Write>(
         self,
         alloc: Global,
@@ -76,6 +117,13 @@ impl DatabaseWork for AuditOptions<'_> {
 
 /// The command `export`: writes the users file of a store.
 impl DatabaseWork for ExportOptions<'_> {
+    ghost use Rattle.scim_command.specs.Options.{default_base};
+    ghost use Rattle.scim_command_database.specs.Exports.{export_text};
+    ghost use Rattle.scim_command_database.specs.Faults.{IsDatabaseFault};
+    ghost use Rattle.scim_command_database.specs.Works.{Reads, Writes};
+
+    ghost does = { λ work old new result before after. Reads default_base IsDatabaseFault (λ done store. Writes before after (export_text store.resources) done) old new result };
+
     fn over<S: Alter + Drop, W: Write>(
         self,
         alloc: Global,
@@ -98,6 +146,11 @@ impl DatabaseWork for ExportOptions<'_> {
 pub struct Importing<'a>(pub &'a str);
 
 impl DatabaseWork for Importing<'_> {
+    ghost use Rattle.scim_command.specs.Options.{default_base};
+    ghost use Rattle.scim_command_database.specs.Works.{Imports};
+
+    ghost does = { λ work old new result before after. Imports default_base work.0.now old new result };
+
     fn over<S: Alter + Drop, W: Write>(
         self,
         alloc: Global,
@@ -112,7 +165,9 @@ impl DatabaseWork for Importing<'_> {
 
 /// Opens the store in a database, with resources located below the base URL, which `contents` copies.
 ///
-/// If [`SqlShelf::open`] fails, returns its error, converted to an error of the program, and the connection.
+/// If [`SqlShelf::open`] fails, returns its error, converted to an error of the program, and the connection:
+/// it is closed, or its database is unchanged or as the last commit left it, except that the tables may have
+/// been created in an empty database.
 fn open_store<S: Alter + Drop>(
     alloc: Global,
     connection: Connection<S>,
@@ -120,6 +175,18 @@ fn open_store<S: Alter + Drop>(
     contents: &mut CacheContents,
 ) -> Result<SqlShelf<S>, (CommandFault, Connection<S>)>
     requires { connection.in_transaction ≡ false }
+    ensures base { IfOk result (λ shelf. base_of shelf ≡ base.now) }
+    ensures opened { IfOk result (λ shelf. HasCleanDisk (state S.Store (connection_of shelf))
+        → (store : Store) × HasOpened base.now (state S.Store connection).now
+        (state S.Store (connection_of shelf)) (rows_of shelf) store) }
+    ensures copied { HasCached [] contents.old → IfOk result (λ shelf. (store : Store)
+        → ⟦<SqlShelf<S> as Shelf>⟧.stands shelf store
+        → ⟦<SqlShelf<S> as Shelf>⟧.is_honest shelf → HasCached store.resources contents.new) }
+    ensures crash { IfOk result (λ shelf.
+        Survives (state S.Store connection) (state S.Store (connection_of shelf))
+        (LeavesBegun base.now (state S.Store connection))) }
+    ensures refused { IfErr result (λ e. FailsToOpen base.now (state S.Store connection)
+        (state S.Store e.1) e.0) }
 {
     match SqlShelf::open(alloc, connection, base, contents) {
         Ok(shelf) => Ok(shelf),
@@ -128,7 +195,9 @@ fn open_store<S: Alter + Drop>(
 }
 
 /// Converts the error of a command, if any, to an error of the program.
-fn of_run(done: Result<(), RunFault>) -> Result<(), CommandFault> {
+fn of_run(done: Result<(), RunFault>) -> Result<(), CommandFault>
+    ensures { result ≡ program_result done }
+{
     match done {
         Ok(()) => Ok(()),
         Err(fault) => Err(CommandFault::Run(fault)),
@@ -138,8 +207,12 @@ fn of_run(done: Result<(), RunFault>) -> Result<(), CommandFault> {
 /// Opens the store in a database, with resources located below the base URL, and with a cache of all
 /// resources if `has_cache` is true and memory suffices.
 ///
-/// If [`SqlShelf::open`] fails, returns its error, converted to an error of the program, and the connection.
-/// If the resources can't be read into the cache, returns the error `Database` and the connection.
+/// If [`SqlShelf::open`] fails, returns its error, converted to an error of the program, and the connection:
+/// it is closed, or its database is unchanged or as the last commit left it, except that the tables may have
+/// been created in an empty database. If the resources can't be read into the cache, returns the error
+/// `Database`, as unusable, and the connection, whose database still holds the store.
+///
+/// Not proved: that the connection is open, and what a crash leaves, after a cache was filled.
 pub fn open_cached<S: Alter + Drop>(
     alloc: Global,
     connection: Connection<S>,
@@ -147,6 +220,20 @@ pub fn open_cached<S: Alter + Drop>(
     has_cache: bool,
 ) -> Result<CachedShelf<SqlShelf<S>>, (CommandFault, Connection<S>)>
     requires { connection.in_transaction ≡ false }
+    ensures opened { IfOk result (λ shelf.
+        ⟦<CachedShelf<SqlShelf<S>> as Shelf>⟧.is_honest shelf → (store : Store)
+        × Opens base.now (state S.Store connection).now store
+        × ⟦<CachedShelf<SqlShelf<S>> as Shelf>⟧.stands shelf store) }
+    ensures is_open { has_cache ≡ false → IfOk result (λ shelf.
+        HasCleanDisk (state S.Store (connection_of (lower_of shelf)))
+        → IsTrue (state S.Store (connection_of (lower_of shelf))).is_open) }
+    ensures crash { has_cache ≡ false → IfOk result (λ shelf.
+        Survives (state S.Store connection) (state S.Store (connection_of (lower_of shelf)))
+        (LeavesBegun base.now (state S.Store connection))) }
+    ensures refused { IfErr result (λ e.
+        FailsToOpen base.now (state S.Store connection) (state S.Store e.1) e.0
+        ⊎ IsTrue has_cache × (e.0 ≡ CommandFault.Run (RunFault.Database DatabaseFault.Unusable))
+        × KeepsStoreOf base.now (state S.Store connection) (state S.Store e.1) (λ _. Unit {0})) }
 {
     let mut contents = contents_for(alloc, has_cache);
     match open_store(alloc, connection, base, &mut contents) {
@@ -162,7 +249,9 @@ pub fn open_cached<S: Alter + Drop>(
 }
 
 /// Returns what copies the resources for a cache, or copies nothing if `has_cache` is false.
-fn contents_for(alloc: Global, has_cache: bool) -> CacheContents {
+fn contents_for(alloc: Global, has_cache: bool) -> CacheContents
+    ensures { HasCached [] result }
+{
     if has_cache {
         CacheContents::new(alloc)
     } else {
@@ -177,7 +266,14 @@ fn fill_if<S: Shelf>(
     alloc: Global,
     shelf: &mut CachedShelf<S>,
     has_cache: bool,
-) -> Result<(), CommandFault> {
+) -> Result<(), CommandFault>
+    ensures store { KeepsStore (HasKeyed ⟦<CachedShelf<S> as Shelf>⟧.stands) shelf.old shelf.new }
+    ensures honest { ⟦<CachedShelf<S> as Shelf>⟧.is_honest shelf.new
+        → ⟦<CachedShelf<S> as Shelf>⟧.is_honest shelf.old }
+    ensures same { has_cache ≡ false → shelf.new ≡ shelf.old }
+    ensures fault { IfErr result (λ f. IsTrue has_cache
+        × (f ≡ CommandFault.Run (RunFault.Database DatabaseFault.Unusable))) }
+{
     if !has_cache || shelf.is_filled() {
         return Ok(());
     }

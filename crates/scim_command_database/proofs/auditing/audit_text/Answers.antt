@@ -1,4 +1,4 @@
-use Rattle.std.proofs.Common.{◌≤◌, ◌∙◌, max, length, arith}
+use Rattle.std.proofs.Common.{◌≤◌, ◌∙◌, length, arith}
 use Rattle.scim_store_tables.specs.Audit.{last_number}
 use Rattle.scim_command_database.proofs.AuditLemmas.{lines_told, numbers_fit}
 use Rattle.scim_command_database.proofs.auditing.audit_text.Goals as goal
