@@ -20,7 +20,7 @@ use Rattle.scim_command.specs.declared.faults.RunFault.{RunFault}
 use Rattle.scim_command.specs.declared.faults.RunFault.TheVariants.{Absent, Database, Output, Users}
 use Rattle.scim_command_database.specs.Explaining.{told}
 use Rattle.scim_command_database.specs.Faults.{IsImportFault, of_opening}
-use Rattle.scim_command_database.specs.Imports.{LeavesUsers}
+use Rattle.scim_store.specs.Importing.{LeavesUsers}
 use Rattle.scim_command_database.specs.declared.explaining.Question.{Question}
 
 -- the result of a command as a result of the program
