@@ -1,4 +1,5 @@
 """`scimd serve` over a new database, its clients, and what it costs."""
+import contextlib
 import hashlib
 import json
 import os
@@ -136,6 +137,8 @@ class Server:
     def kill(self):
         if self.is_under:
             kill_children(self.process.pid)
+            with contextlib.suppress(subprocess.TimeoutExpired):
+                self.process.wait(5)  # it ends behind the server, which has the lock on the database until then
         self.process.kill()
         self.process.wait()
         self.process.stdout.close()
