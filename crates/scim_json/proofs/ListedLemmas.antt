@@ -111,7 +111,7 @@ some_left [] p e = absurd (cc)
 some_left (t ∷ ts) p e = omega arith
 
 module _ (turns : ℕ) (all left : List Token) (h : Continues turns all left) where
-  -- what is left is no rest of a list
+  -- the tokens left are no rest of a list
   stops : rest_of_list h.turns_left left ≡ None → rest_of_list turns all ≡ None
   stops none = h.same ∙ ap (option_map h.before) none
 

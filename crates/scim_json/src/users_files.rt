@@ -91,7 +91,8 @@ impl<'a> DocumentReader<'a> {
             → result ≡ Ok None → IsDocumentsText base text cs }
         ensures damaged { (base text : List ℕ) (cs : List Content) → HasRead base text cs self.old
             → IfFault result (λ item. IsDamagedAt base text item.0) }
-        ensures shorter { IfOk result (λ found. IfSome found (λ _. unread self.new < unread self.old)) }
+        ensures shorter { IfOk result (λ found. IfSome found
+            (λ _. unread self.new < unread self.old)) }
     {
         if self.reader.take_end_array() {
             return if is_at_end(&mut self.reader) {

@@ -24,7 +24,7 @@ pub record AreGroups (gs : List UnitRows) : Type 0 where
   pub own : All IsOwn gs
   pub ascending : AllPairs (λ g h. unit_cmp g.unit h.unit ≡ Less) gs
 
--- what is left of groups, and the rows, after the group of a unit is taken out at an index
+-- the group of a unit is taken out of the groups at an index: the groups left, and its rows
 pub record IsTaken (u : AttributeUnit) (before : List UnitRows) (index : ℕ) (own : List Row) (left : List UnitRows) : Type 0 where
   pub low : List UnitRows
   pub high : List UnitRows
