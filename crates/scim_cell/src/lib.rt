@@ -19,5 +19,5 @@ pub use distinct_values::with_values;
 pub use ids::{Id, id_of, ids_ordered_as_texts, ids_read_back, uuid_of};
 pub use places::{Place, compare_units, sub_attributes_by_place};
 pub use row_checks::are_values;
-pub use rows::{Field, Row, RowTest};
+pub use rows::{Field, Row, RowJudge, RowTest};
 pub use same_values::{is_nameless, is_same_value};

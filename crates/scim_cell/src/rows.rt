@@ -1,5 +1,5 @@
 //! Rows: the values of units.
-ghost use Rattle.std.specs.Prelude.{◌≡◌, false, IfOk, filter};
+ghost use Rattle.std.specs.Prelude.{◌≡◌, false, IfOk, filter, map};
 ghost use Rattle.scim_schema.specs.declared.Leaf.{Leaf};
 ghost use Rattle.std.specs.Option.{option_copied};
 ghost use Rattle.scim_cell.specs.Rows as spec;
@@ -72,6 +72,18 @@ pub trait RowTest {
     {
         true
     }
+}
+
+/// A judge that decides from the row and the leaf of a field whether `Part::restrict_by` keeps the field,
+/// where deciding may want memory.
+pub trait RowJudge {
+    /// The function that [`RowJudge::kept`] computes, for use in contracts.
+    ghost keeps: { Self → spec.Test };
+
+    /// Returns for each field of the row, in the order of the fields, whether it is kept.
+    fn kept(&self, alloc: Global, row: &Row) -> Result<Vec<bool>, NoMemory>
+        ensures { IfOk result (λ v. v.items
+            ≡ map (λ f. keeps self.now row.now f.leaf) row.now.fields) };
 }
 
 impl Field {
@@ -161,6 +173,17 @@ impl Row {
             fields,
         })
     }
+
+    /// Returns a copy with only the fields that the judge keeps. The copy may have no fields.
+    pub fn restrict_by<J: RowJudge>(&self, alloc: Global, judge: &J) -> Result<Row, NoMemory>
+        ensures { IfOk result (λ r. r ≡ spec.restricted_row (J.keeps judge.now) self.now) }
+    {
+        let fields = judged_fields(alloc, self, judge)?;
+        Ok(Row {
+            unit: self.unit(),
+            fields,
+        })
+    }
 }
 
 /// Copies the fields.
@@ -185,6 +208,21 @@ fn kept_fields<T: RowTest>(alloc: Global, row: &Row, test: &T) -> Result<Vec<Fie
     let mut copies = Vec::new(alloc);
     for field in row.fields() {
         if test.is_kept(row, field.leaf) {
+            push(&mut copies, field.try_copy(alloc)?)?;
+        }
+    }
+    Ok(copies)
+}
+
+/// Copies the fields of the row that the judge keeps.
+fn judged_fields<J: RowJudge>(alloc: Global, row: &Row, judge: &J) -> Result<Vec<Field>, NoMemory>
+    ensures { IfOk result (λ v. v.items
+        ≡ filter (λ f. J.keeps judge.now row.now f.leaf) row.now.fields) }
+{
+    let kept = judge.kept(alloc, row)?;
+    let mut copies = Vec::new(alloc);
+    for (index, field) in row.fields().iter().enumerate() {
+        if kept[index] {
             push(&mut copies, field.try_copy(alloc)?)?;
         }
     }

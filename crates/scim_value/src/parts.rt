@@ -14,9 +14,9 @@ ghost use Rattle.scim_cell.specs.Rows.{AreSound, AreValues};
 ghost use Rattle.scim_value.specs.Changes.{restricted_part, with_values};
 ghost use Rattle.scim_value.specs.Positions.{HasPositions};
 
-use crate::row_lists::{copy_rows, kept_rows};
+use crate::row_lists::{copy_rows, judged_rows, kept_rows};
 use crate::row_splits::split_rows;
-use scim_cell::{Atom, Id, Row, RowTest};
+use scim_cell::{Atom, Id, Row, RowJudge, RowTest};
 use scim_schema::{Attribute, Kind, Leaf, Unit, is_multi_valued, unit_of};
 use scim_text::NoMemory;
 use std::alloc::Global;
@@ -215,6 +215,20 @@ impl Part {
             ≡ spec.restricted (T.keeps test.now) (spec.rows self.now)) }
     {
         let rows = kept_rows(alloc, self.rows(), test)?;
+        Ok(Part::of_rows(self.kind(), self.id(), rows))
+    }
+
+    /// Returns a copy with only the fields that the judge keeps. Values that lose all fields are removed,
+    /// so that positions have no gaps.
+    pub fn restrict_by<J: RowJudge>(&self, alloc: Global, judge: &J) -> Result<Part, NoMemory>
+        ensures whole { IfOk result (λ p. p ≡ restricted_part (J.keeps judge.now) self.now) }
+        ensures valid { IfOk result IsPart }
+        ensures kind { IfOk result (λ p. p.kind ≡ self.now.kind) }
+        ensures id { IfOk result (λ p. p.id ≡ self.now.id) }
+        ensures rows { IfOk result (λ p. spec.rows p
+            ≡ spec.restricted (J.keeps judge.now) (spec.rows self.now)) }
+    {
+        let rows = judged_rows(alloc, self.rows(), judge)?;
         Ok(Part::of_rows(self.kind(), self.id(), rows))
     }
 }
