@@ -5,3 +5,4 @@ pub mod KeptLemmas
 pub mod EqualityLemmas
 pub mod Facts
 pub mod KeyLemmas
+pub mod RestrictedLemmas

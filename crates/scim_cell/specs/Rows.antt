@@ -30,6 +30,10 @@ pub record Row : Type 0 where
 abbrev pub Test : Type 0
 Test = Row → Leaf → Bool
 
+-- a test of leaves, whatever the row
+abbrev pub by_leaf : (Leaf → Bool) → Test
+by_leaf keep r l = keep l
+
 -- the unit of a cell at a place
 abbrev pub unit_at : Place → AttributeUnit
 unit_at p = unit_of (leaf_of p)
