@@ -3,7 +3,7 @@ use crate::arguments::{beside, joined, push_all, said, shown, truth};
 use crate::case::Case;
 use crate::cell_calls::{cell, of_sub_attribute, rows};
 use crate::faults::CaseFault;
-use crate::row_tests::WithAtom;
+use crate::row_tests::{WithAtom, WithAtomOr};
 use crate::tables::named;
 use scim_cell::{Atom, Cell, Id, Row, Text, are_values};
 use scim_samples::{ALICE, BASE, atom_text, leaf_text, part, part_text, read_cells, row_text};
@@ -43,6 +43,7 @@ enum OfPart {
     Values,
     Restricted,
     RestrictedByAtom,
+    RestrictedByJudge,
     RestrictedPositions,
     Text,
     Atom,
@@ -60,7 +61,7 @@ enum OfResource {
     UniqueNames,
 }
 
-static CALLS: [(&str, ValueCall); 29] = [
+static CALLS: [(&str, ValueCall); 30] = [
     ("part", ValueCall::Part),
     ("sorted_part", ValueCall::SortedPart),
     ("taken_apart", ValueCall::TakenApart),
@@ -74,6 +75,10 @@ static CALLS: [(&str, ValueCall); 29] = [
     (
         "restrict_by_atom",
         ValueCall::OnPart(OfPart::RestrictedByAtom),
+    ),
+    (
+        "restrict_by_judge",
+        ValueCall::OnPart(OfPart::RestrictedByJudge),
     ),
     (
         "restricted_positions",
@@ -172,6 +177,7 @@ fn told_of_part(case: &Case<'_>, told: OfPart, part: &Part) -> Result<String, Ca
         OfPart::Values => values_text(case, part),
         OfPart::Restricted => restricted_text(case, part),
         OfPart::RestrictedByAtom => restrict_by_atom(case, part),
+        OfPart::RestrictedByJudge => restrict_by_judge(case, part),
         OfPart::RestrictedPositions => restricted_positions(case, part),
         OfPart::Text => cells_text(case.alloc, part),
         OfPart::Atom => atom_told(case, part),
@@ -305,6 +311,16 @@ fn restricted(case: &Case<'_>, part: &Part) -> Result<Part, CaseFault> {
 fn restrict_by_atom(case: &Case<'_>, part: &Part) -> Result<String, CaseFault> {
     let Cell { leaf, atom, .. } = cell(case, "cell")?;
     let rest = part.restrict(case.alloc, &WithAtom { leaf, atom })?;
+    cells_text(case.alloc, &rest)
+}
+
+/// Returns the cells of those values of the part that have the leaf and the atom of the argument `cell`. Of
+/// other values, returns the cells of the sub-attribute of the leaf in the argument `keep`.
+fn restrict_by_judge(case: &Case<'_>, part: &Part) -> Result<String, CaseFault> {
+    let other = of_sub_attribute(case)?;
+    let Cell { leaf, atom, .. } = cell(case, "cell")?;
+    let whole = WithAtom { leaf, atom };
+    let rest = part.restrict_by(case.alloc, &WithAtomOr { whole, other })?;
     cells_text(case.alloc, &rest)
 }
 
