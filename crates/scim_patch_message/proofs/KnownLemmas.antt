@@ -18,8 +18,8 @@ use Rattle.scim_filter_grammar.specs.WrittenPaths.{Written, SpellsPath, plain, f
 use Rattle.scim_path.specs.declared.faults.PathFault.{PathFault}
 use Rattle.scim_path.specs.declared.faults.PathFault.TheVariants as fault
 use Rattle.scim_path.specs.Paths.{PathTarget, OfExtension, OfAttribute, OfSubAttribute, OfValues, knows, extension_named, names_target, chosen_at, chosen, filtered_target, written_target, Reads, spelled, unspelled}
-use Rattle.scim_patch_message.specs.Targets.{target_in}
-use Rattle.scim_patch_message.proofs.TargetLemmas.{targets_are_named}
+use Rattle.scim_path.specs.Targets.{target_in}
+use Rattle.scim_path.proofs.Facts.{targets_are_named}
 
 -- what is found is in the list
 pub found_in : {X : Type 0} (test : X → Bool) (xs : List X) (x : X) → find test xs ≡ Some x → Contains xs x

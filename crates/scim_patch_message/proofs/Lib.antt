@@ -1,4 +1,3 @@
-pub mod TargetLemmas
 pub mod BothLemmas
 pub mod ClearedLemmas
 pub mod ListLemmas

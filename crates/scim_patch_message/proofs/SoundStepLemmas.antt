@@ -33,11 +33,11 @@ use Rattle.scim_body.specs.Drafts.{is_empty}
 use Rattle.scim_body.proofs.Facts.{atom_given, chained, filled, fields_given, fits_simple, has_simple, mapped, not_refused, simple_no_moment, table_fits, values_listed, with_one, IsOf, IsSingle}
 use Rattle.scim_path.specs.declared.faults.PathFault.{PathFault}
 use Rattle.scim_path.specs.Paths.{PathTarget, OfExtension, OfAttribute, OfSubAttribute, OfValues}
+use Rattle.scim_path.specs.Targets.{target_in}
 use Rattle.scim_patch_steps.specs.Changes.{StepChange, Keep, KeepMatches, RemoveMatches, KeepSubAttribute, ClearAtMatches}
 use Rattle.scim_patch_steps.specs.Patch.{Step, Pathless, Of, AreGivenFields, AreGivenValues, MayBeMade, IsStep}
 use Rattle.scim_patch_message.specs.declared.operations.Operation.{Operation}
 use Rattle.scim_patch_message.specs.declared.operations.Operation.TheVariants.{Add, Replace, Remove}
-use Rattle.scim_patch_message.specs.Targets.{target_in}
 use Rattle.scim_patch_message.specs.Readings.{Read, joined, value_read}
 use Rattle.scim_patch_message.specs.PathSteps.{one, emptied, kept_steps, set_to, set_units, listed_change, listed_steps, single_steps, given_steps, writable_steps, attribute_steps, sub_attribute_kept, sub_attribute_cleared, sub_attribute_set, sub_attribute_emptied, sub_attribute_given, writable_sub_attribute_steps, sub_attribute_steps, matches_emptied, matches_change, matches_set, matches_given, writable_matches_steps, matches_steps, at_matches_emptied, at_matches_change, at_matches_given, writable_at_matches_steps, at_matches_steps, own_removed, extension_removed, extension_emptied, attribute_or_none, own_member, extension_object, extension_given, extension_steps, target_steps, is_fixed_target}
 use Rattle.scim_patch_message.specs.Messages.{names_nothing, key_steps, member_steps, object_steps, pathless_steps, valued_steps, pathed_steps, text_steps, path_steps, named_steps, keys_clash, member_operation, object_operation, operation_steps, if_few, list_steps, items_steps, object_message, message_steps}

@@ -12,6 +12,7 @@ use Rattle.scim_filter_grammar.specs.declared.tree.Meant.TheVariants as meant
 use Rattle.scim_filter_grammar.specs.Spelled.{path_in}
 use Rattle.scim_path.specs.declared.faults.PathFault.{PathFault}
 use Rattle.scim_path.specs.Paths.{PathTarget}
+use Rattle.scim_path.specs.Targets.{target_in}
 use Rattle.scim_body.specs.BodyNames.{value_named, is_twice, items_list}
 use Rattle.scim_body.specs.BodyValues.{present, given_named}
 use Rattle.scim_patch_steps.specs.Patch.{Pathless, Patch}
@@ -19,7 +20,6 @@ use Rattle.scim_patch_message.specs.declared.operations.Operation.{Operation}
 use Rattle.scim_patch_message.specs.declared.operations.Operation.TheVariants.{Add, Replace, Remove}
 use Rattle.scim_patch_message.specs.declared.faults.PatchFault.{PatchFault}
 use Rattle.scim_patch_message.specs.declared.faults.PatchFault.TheVariants.{Syntax, Path, Value}
-use Rattle.scim_patch_message.specs.Targets.{target_in}
 use Rattle.scim_patch_message.specs.Readings.{Read, joined, each_member}
 use Rattle.scim_patch_message.specs.PathSteps.{target_steps, is_fixed_target}
 

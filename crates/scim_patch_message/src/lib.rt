@@ -2,7 +2,6 @@
 #![tactic(auto)]
 
 mod faults;
-mod laws;
 mod match_steps;
 mod message_readings;
 mod messages;
@@ -12,5 +11,4 @@ mod path_targets;
 mod pathless_steps;
 
 pub use faults::PatchFault;
-pub use laws::targets_are_named;
 pub use messages::read_patch;

@@ -13,12 +13,12 @@ ghost use Rattle.scim_patch_message.specs.code.Inside.{read_of, answered};
 use crate::faults::PatchFault;
 use crate::message_readings::Reading;
 use crate::operations::Operation;
-use crate::path_targets::{present, push_target, target_of};
+use crate::path_targets::{present, push_target};
 use crate::pathless_steps::push_pathless;
 use json::Scratch;
 use scim_body::{Member, NotJson, Tree, given_named, is_twice, value_named};
 use scim_patch_steps::Patch;
-use scim_path::Path;
+use scim_path::{Path, read_target};
 use scim_schema::{Kind, MOST_OPERATIONS};
 use scim_text::{Failed, NoMemory};
 use std::alloc::Global;
@@ -63,7 +63,7 @@ fn push_text(
         (spec.text_steps kind operation (option_map (λ v. view v.now) value.entry)
         (Some text.now))) }
 {
-    match target_of(alloc, kind, text) {
+    match read_target(alloc, kind, text) {
         Ok(path) => push_valued(alloc, kind, operation, path, value, reading),
         Err(Failed::Because(_)) => {
             reading.refuse(PatchFault::Path);

@@ -1,13 +1,10 @@
 //! The steps of an operation with a path (RFC 7644 section 3.5.2).
 ghost use Rattle.std.specs.Prelude.{◌≡◌, Some, OnOk, option_map, map};
 ghost use Rattle.scim_body.specs.View.{view, members_view};
-ghost use Rattle.scim_text.specs.Failures.{UnlessMemory};
 ghost use Rattle.scim_body.specs.BodyValues as values;
 ghost use Rattle.scim_path.specs.Paths.{path_target};
-ghost use Rattle.scim_path.specs.Results.{target_read};
 ghost use Rattle.scim_patch_message.specs.PathSteps as spec;
 ghost use Rattle.scim_patch_message.specs.Readings.{both, joined, each_member};
-ghost use Rattle.scim_patch_message.specs.Targets.{target_in};
 ghost use Rattle.scim_patch_message.specs.code.Inside.{read_of};
 
 use crate::faults::PatchFault;
@@ -16,11 +13,11 @@ use crate::message_readings::Reading;
 use crate::operations::Operation;
 use crate::path_steps::push_attribute;
 use scim_body::{Member, Tree, is_absent};
-use scim_path::{Path, PathFault, ValuePath, read_path, texts_name_one_thing};
+use scim_path::{Path, ValuePath};
 use scim_schema::{
     Attribute, Kind, Leaf, Schema, attribute_named_in, attributes, is_read_only, schema_of,
 };
-use scim_text::{Failed, NoMemory};
+use scim_text::NoMemory;
 use std::alloc::Global;
 
 /// Returns the value. `None` if it is null or `[]`, which count as missing.
@@ -28,17 +25,6 @@ pub(crate) fn present<'a, 'b>(value: &'a Tree<'b>) -> Option<&'a Tree<'b>>
     ensures { option_map (λ v. view v.now) result ≡ values.present (Some (view value.now)) }
 {
     if is_absent(value) { None } else { Some(value) }
-}
-
-/// Reads a text as the path of a change to resources of the kind.
-///
-/// Fails with the fault of [`read_path`] if the text isn't a valid path or names an attribute that the kind
-/// lacks.
-pub(crate) fn target_of(alloc: Global, kind: Kind, text: &str) -> Result<Path, Failed<PathFault>>
-    ensures { UnlessMemory (λ r. target_in kind text.now ≡ target_read r) result }
-{
-    texts_name_one_thing();
-    read_path(alloc, kind, text)
 }
 
 /// Whether the attribute or sub-attribute that `path` names is readOnly. False for an extension. For a value

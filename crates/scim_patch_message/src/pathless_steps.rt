@@ -9,9 +9,10 @@ ghost use Rattle.scim_patch_message.specs.code.Inside.{read_of};
 use crate::faults::PatchFault;
 use crate::message_readings::Reading;
 use crate::operations::Operation;
-use crate::path_targets::{is_fixed_path, present, push_target, target_of};
+use crate::path_targets::{is_fixed_path, present, push_target};
 use scim_body::{Member, Tree};
 use scim_filter_grammar::{Meant, attribute_path};
+use scim_path::read_target;
 use scim_schema::Kind;
 use scim_text::{Failed, NoMemory};
 use std::alloc::Global;
@@ -40,7 +41,7 @@ fn push_member(
     ensures { OnOk result (read_of reading.new ≡ both (read_of reading.old)
         (spec.member_steps kind operation key.now (view value.now))) }
 {
-    match target_of(alloc, kind, key) {
+    match read_target(alloc, kind, key) {
         Ok(path) => {
             if is_fixed_path(kind, &path) {
                 return Ok(());

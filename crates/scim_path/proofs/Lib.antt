@@ -1,0 +1,2 @@
+pub mod TargetLemmas
+pub mod Facts

@@ -1,5 +1,6 @@
 //! Laws about all texts of paths.
 ghost use Rattle.scim_path.specs.Paths.{TextsNameOneThing};
+ghost use Rattle.scim_path.specs.Targets.{TargetsAreNamed};
 
 use scim_filter_grammar::one_path_is_spelled;
 
@@ -12,3 +13,9 @@ pub fn texts_name_one_thing()
 {
     one_path_is_spelled();
 }
+
+/// For every text, the reader of paths returns the target or the fault that the grammar of paths defines for
+/// this text.
+pub fn targets_are_named()
+    ensures { TargetsAreNamed }
+{}

@@ -5,8 +5,10 @@ ghost use Rattle.scim_filter_grammar.specs.Tree.{Tree, tree_of};
 ghost use Rattle.scim_filter_grammar.specs.WrittenPaths.{Filtered, written_of};
 ghost use Rattle.scim_path.specs.Paths as spec;
 ghost use Rattle.scim_path.specs.Results.{target_read, values_read, chosen_read, filtered_read, parts_read};
+ghost use Rattle.scim_path.specs.Targets.{target_in};
 
 use crate::faults::PathFault;
+use crate::laws::texts_name_one_thing;
 use crate::paths::{Path, ValuePath};
 use scim_cell::Text;
 use scim_filter_grammar::{Filter, Meant, Node, WrittenPath, knows_names, lone_word, written_path};
@@ -167,4 +169,17 @@ pub fn read_path(alloc: Global, kind: Kind, text: &str) -> Result<Path, Failed<P
         },
         None => Err(Failed::Because(PathFault::Syntax)),
     }
+}
+
+/// Reads a text as the path of a change to resources of the kind, and returns its target.
+///
+/// The same as [`read_path`], with a contract that names the result as a function of the text.
+///
+/// Fails with the fault of [`read_path`] if the text isn't a valid path or names an attribute that the kind
+/// lacks.
+pub fn read_target(alloc: Global, kind: Kind, text: &str) -> Result<Path, Failed<PathFault>>
+    ensures { UnlessMemory (λ r. target_in kind text.now ≡ target_read r) result }
+{
+    texts_name_one_thing();
+    read_path(alloc, kind, text)
 }

@@ -18,7 +18,7 @@ use Rattle.scim_path.specs.declared.paths.Path.{Path}
 use Rattle.scim_path.specs.Results.{target_read}
 use Rattle.scim_path.specs.declared.faults.PathFault.{PathFault}
 use Rattle.scim_path.specs.Paths.{PathTarget, OfExtension, extension_named, Reads, spelled, unspelled, Names, TextsNameOneThing}
-use Rattle.scim_patch_message.specs.Targets.{written_in, spelled_target, target_with, target_in, TargetsAreNamed}
+use Rattle.scim_path.specs.Targets.{written_in, spelled_target, target_with, target_in, TargetsAreNamed}
 
 -- a text that isn't too long is read so
 short_reads : (kind : Kind) (text : List ℕ) (r : Result Written Fault) → written_at 32 kind (behind is_space text) ≡ r → length text ≤ LONGEST_FILTER
