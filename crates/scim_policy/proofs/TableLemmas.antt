@@ -142,10 +142,14 @@ some_of_second : (o p : Option Decision) → is_some p ≡ true → is_some (or_
 some_of_second None p e = e
 some_of_second (Some d) p e = refl
 
--- where the rest is decided, all is
-pub all_known : (ds : Decisions) (l : Leaf) (o : Option Decision) → is_some ds.rest ≡ true → or_else (decided ds l) o ≡ decided ds l
+-- where the rest is decided, each leaf is
+pub rest_all : (ds : Decisions) (l : Leaf) → is_some ds.rest ≡ true → is_some (decided ds l) ≡ true
 unfolding decided
-all_known ds l o e = some_stays _ o (some_of_second (in_attributes (tag_of the_attribute l.attribute) l.sub_attribute ds.attributes.items) ds.rest e)
+rest_all ds l e = some_of_second (in_attributes (tag_of the_attribute l.attribute) l.sub_attribute ds.attributes.items) ds.rest e
+
+-- where the rest is decided, no more is added
+pub all_known : (ds : Decisions) (l : Leaf) (o : Option Decision) → is_some ds.rest ≡ true → or_else (decided ds l) o ≡ decided ds l
+all_known ds l o e = some_stays (decided ds l) o (rest_all ds l e)
 
 -- a decision on the rest
 pub rest_decided : (before after : Decisions) (d : Decision) (l : Leaf) → before.rest ≡ None → after.rest ≡ Some d → after.attributes.items ≡ before.attributes.items → decided after l ≡ or_else (decided before l) (Some d)

@@ -2,6 +2,8 @@ pub mod code
 pub mod Access
 pub mod Control
 pub mod Decide
+pub mod Patterns
+pub mod PatternTable
 pub mod Picked
 pub mod Rules
 pub mod Table

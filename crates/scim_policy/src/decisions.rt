@@ -105,7 +105,7 @@ impl Decisions {
     }
 
     /// The decision made on a leaf so far, if any.
-    fn decided(&self, leaf: Leaf) -> Option<Decision>
+    pub(crate) fn decided(&self, leaf: Leaf) -> Option<Decision>
         ensures { result ≡ table.decided self.now leaf }
     {
         match at_number(

@@ -3,10 +3,11 @@ ghost use Rattle.std.specs.Prelude.{◌≡◌, ◌≤◌, length};
 ghost use Rattle.scim_schema.specs.declared.limits.TheConstants.{MOST_RULES};
 ghost use Rattle.scim_filter_grammar.specs.Tree.{tree_of};
 ghost use Rattle.scim_policy.specs.Decide.{paths_on};
+ghost use Rattle.scim_policy.specs.Patterns.{attribute_before, filtered_on};
 ghost use Rattle.scim_policy.specs.Rules as spec;
 
 use scim_cell::Text;
-use scim_filter_grammar::Filter;
+use scim_filter_grammar::{Filter, Node};
 use scim_schema::{Attribute, Kind, Op, SubAttribute};
 use std::fmt;
 use std::marker::Model;
@@ -47,12 +48,21 @@ pub struct Target {
     filter: Filter,
 }
 
-/// The leaves that a rule covers on resources of one kind. Paths that name nothing on that kind are omitted.
-/// In contracts it is represented by the kind and the paths.
+/// A path with a value filter: it covers an attribute, or one of its sub-attributes, only at the values that
+/// match the filter. In contracts it is represented by the filter's tree and the sub-attribute.
+#[derive(Drop)]
+pub struct FilteredPath {
+    filter: Filter,
+    sub_attribute: Option<SubAttribute>,
+}
+
+/// The paths of a rule for resources of one kind. Paths that name nothing on that kind are omitted. In
+/// contracts they are represented by the kind, the paths without a value filter, and those with one.
 #[derive(Drop)]
 pub struct KindPaths {
     kind: Kind,
     paths: Vec<PolicyPath>,
+    filtered: Vec<FilteredPath>,
 }
 
 /// A rule: it allows or denies some clients some operations on some attributes of some kinds of resources. If
@@ -93,17 +103,38 @@ impl fmt::Debug for Target {
     }
 }
 
+impl Model for FilteredPath {
+    ghost use Rattle.std.specs.Coded.{codes};
+    ghost use Rattle.scim_schema.specs.contracts.SubAttribute as sub_attribute_type;
+    ghost use Rattle.scim_filter_grammar.specs.Tree.{tree_of};
+    ghost use Rattle.scim_policy.specs.Rules.{FilteredPath};
+    ghost use Rattle.scim_policy.specs.code.Steps.{tree_code};
+
+    ghost Value = { FilteredPath };
+
+    ghost coded = { Prim.hlevel (codes, tree_code, sub_attribute_type.the_row.coded) };
+
+    ghost view = { λ p. record { tree = tree_of p.filter; sub_attribute = p.sub_attribute } };
+}
+
+impl fmt::Debug for FilteredPath {
+    fn fmt<W: fmt::Write>(&self, f: &mut fmt::Formatter<W>) -> fmt::Result {
+        write!(f, "FilteredPath({:?})", self.sub_attribute)
+    }
+}
+
 impl Model for KindPaths {
     ghost use Rattle.std.specs.Coded.{codes};
     ghost use Rattle.scim_schema.specs.contracts.Kind as kind_type;
     ghost use Rattle.scim_policy.specs.contracts.rules.PolicyPath as path;
+    ghost use Rattle.scim_policy.specs.contracts.rules.FilteredPath as filtered_path;
     ghost use Rattle.scim_policy.specs.Rules.{KindPaths};
 
     ghost Value = { KindPaths };
 
-    ghost coded = { Prim.hlevel (codes, kind_type.the_row.coded, path.the_row.coded) };
+    ghost coded = { Prim.hlevel (codes, kind_type.the_row.coded, path.the_row.coded, filtered_path.the_row.coded) };
 
-    ghost view = { λ p. record { kind = p.kind; paths = p.paths.items } };
+    ghost view = { λ p. record { kind = p.kind; paths = p.paths.items; filtered = p.filtered.items } };
 }
 
 impl Model for Rule {
@@ -165,13 +196,55 @@ impl Target {
     }
 }
 
+impl FilteredPath {
+    /// Makes a path from a value path and the sub-attribute after its brackets.
+    pub fn new(filter: Filter, sub_attribute: Option<SubAttribute>) -> FilteredPath
+        ensures tree { result.tree ≡ tree_of filter }
+        ensures sub_attribute { result.sub_attribute ≡ sub_attribute }
+    {
+        FilteredPath {
+            filter,
+            sub_attribute,
+        }
+    }
+
+    /// The value path: the attribute and, in brackets, the filter that its values must match.
+    pub fn filter(&self) -> &Filter
+        ensures { tree_of result.now ≡ self.now.tree }
+    {
+        &self.filter
+    }
+
+    /// The attribute before the brackets. `None` if the filter isn't a value path on an attribute.
+    pub fn attribute(&self) -> Option<Attribute>
+        ensures { result ≡ attribute_before self.now.tree }
+    {
+        match self.filter.tree() {
+            Node::Values(path, _) => path.meant.attribute(),
+            _ => None,
+        }
+    }
+
+    /// The sub-attribute after the brackets, if there is one.
+    pub fn sub_attribute(&self) -> Option<SubAttribute>
+        ensures { result ≡ self.now.sub_attribute }
+    {
+        self.sub_attribute
+    }
+}
+
 impl KindPaths {
-    /// Makes the paths for resources of `kind`.
-    pub fn new(kind: Kind, paths: Vec<PolicyPath>) -> KindPaths
+    /// Makes the paths for resources of `kind`: those without a value filter, and those with one.
+    pub fn new(kind: Kind, paths: Vec<PolicyPath>, filtered: Vec<FilteredPath>) -> KindPaths
         ensures kind { result.kind ≡ kind }
         ensures paths { result.paths ≡ paths.items }
+        ensures filtered { result.filtered ≡ filtered.items }
     {
-        KindPaths { kind, paths }
+        KindPaths {
+            kind,
+            paths,
+            filtered,
+        }
     }
 
     /// The kind of resources that the paths are for.
@@ -181,11 +254,18 @@ impl KindPaths {
         self.kind
     }
 
-    /// The paths of the leaves that the rule covers on resources of the kind.
+    /// The paths without a value filter. They cover leaves at all values.
     pub fn paths(&self) -> &[PolicyPath]
         ensures { result.now ≡ self.now.paths }
     {
         self.paths.as_slice()
+    }
+
+    /// The paths with a value filter.
+    pub fn filtered(&self) -> &[FilteredPath]
+        ensures { result.now ≡ self.now.filtered }
+    {
+        self.filtered.as_slice()
     }
 }
 
@@ -258,13 +338,25 @@ impl Rule {
         self.paths.as_slice()
     }
 
-    /// The rule's paths for resources of `kind`. Empty if the rule isn't for `kind`.
+    /// The rule's paths without a value filter for resources of `kind`. Empty if the rule isn't for `kind`.
     pub fn paths_on(&self, kind: Kind) -> &[PolicyPath]
         ensures { result.now ≡ paths_on kind self.now.paths }
     {
         for paths in self.paths() {
             if kind == paths.kind() {
                 return paths.paths();
+            }
+        }
+        &[]
+    }
+
+    /// The rule's paths with a value filter for resources of `kind`. Empty if the rule isn't for `kind`.
+    pub fn filtered_on(&self, kind: Kind) -> &[FilteredPath]
+        ensures { result.now ≡ filtered_on kind self.now.paths }
+    {
+        for paths in self.paths() {
+            if kind == paths.kind() {
+                return paths.filtered();
             }
         }
         &[]

@@ -1,5 +1,5 @@
 -- The clients and paths in a policy file.
-use Rattle.std.specs.Prelude.{ℕ, Bool, ◌&&◌, ◌||◌, ◌==◌, nat_le, List, length, map, filter_map, codes, Option, None, Some, is_some, option_and_then, if◌then◌else◌}
+use Rattle.std.specs.Prelude.{ℕ, Bool, ◌&&◌, ◌||◌, ◌==◌, nat_le, List, [], length, map, filter_map, codes, Option, None, Some, is_some, option_and_then, if◌then◌else◌}
 use Rattle.std.specs.List.{list_any, list_all}
 use Rattle.scim_schema.specs.declared.Kind.{Kind}
 use Rattle.scim_schema.specs.Lookup.{is_same_text}
@@ -48,7 +48,7 @@ is_path kinds t = list_any (λ k. is_some (path_named t k)) kinds
 
 -- all entries of `paths`, read for resources of a kind; entries that aren't valid for the kind are skipped
 abbrev pub paths_for : List (List ℕ) → Kind → KindPaths
-paths_for texts kind = record { kind = kind; paths = filter_map (λ t. path_named t kind) texts }
+paths_for texts kind = record { kind = kind; paths = filter_map (λ t. path_named t kind) texts; filtered = [] }
 
 -- the paths of a rule for each of these kinds; None if an entry is valid for none of the kinds
 abbrev pub paths_named : List Kind → List (List ℕ) → Option (List KindPaths)

@@ -72,7 +72,7 @@ fn paths_for(alloc: Global, texts: &[&str], kind: Kind) -> Result<KindPaths, NoM
             push(&mut paths, path)?;
         }
     }
-    Ok(KindPaths::new(kind, paths))
+    Ok(KindPaths::new(kind, paths, Vec::new(alloc)))
 }
 
 /// Reads the entries of `paths` of a rule for each of the kinds. `None` if an entry is neither `*` nor the

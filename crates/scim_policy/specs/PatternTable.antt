@@ -1,0 +1,40 @@
+-- The patterns of all leaves in a table.
+use Rattle.std.specs.Prelude.{ℕ, Bool, true, ◌&&◌, nat_lt, List, [], ◌∷◌, ◌++◌, map, filter, Option, None, Some}
+use Rattle.std.specs.List.{list_any}
+use Rattle.scim_schema.specs.declared.Leaf.{Leaf}
+use Rattle.scim_policy.specs.declared.rules.Decision.{Decision}
+use Rattle.scim_policy.specs.declared.patterns.PartialRule.{PartialRule}
+use Rattle.scim_policy.specs.declared.patterns.Patterns.{Patterns}
+use Rattle.scim_policy.specs.Rules.{FilteredPath}
+use Rattle.scim_policy.specs.Patterns.{PatternRule, covers_in_part, filters_on}
+use Rattle.scim_policy.specs.Table.{or_denied, decided}
+
+-- the decision of a rule, and its paths with a value filter
+abbrev pub partial_paths : PartialRule → Decision × List FilteredPath
+partial_paths p = (p.decision, p.filtered.now)
+
+-- whether the number is less than that of the decision; true if there is no decision
+abbrev pub is_before : ℕ → Option Decision → Bool
+is_before n None = true
+is_before n (Some d) = nat_lt n d.rule
+
+-- whether a rule covers the leaf at some values, and no earlier one at all values, by the decision of the first
+-- that does
+abbrev pub counts : Leaf → Option Decision → (Decision × List FilteredPath) → Bool
+counts l whole p = list_any (covers_in_part l) p.1 && is_before p.0.rule whole
+
+-- what a rule decides on some values of the leaf
+abbrev pub partial_rule : Leaf → (Decision × List FilteredPath) → PatternRule
+partial_rule l p = record { decision = p.0; filters = Some (filters_on l p.1) }
+
+-- the rules of a leaf's pattern that decide on some values
+abbrev pub partial_rules : Leaf → Option Decision → List (Decision × List FilteredPath) → List PatternRule
+partial_rules l whole ps = map (partial_rule l) (filter (counts l whole) ps)
+
+-- the last rule of a pattern, which decides on all values; rule 0, which denies, for None
+abbrev pub last_rule : Option Decision → PatternRule
+last_rule whole = record { decision = or_denied whole; filters = None }
+
+-- the rules of a leaf's pattern in a table
+unfoldable pub rules_in : Patterns → Leaf → List PatternRule
+rules_in ps l = partial_rules l (decided ps.last l) (map partial_paths ps.partial.items) ++ last_rule (decided ps.last l) ∷ []
