@@ -32,7 +32,7 @@ use Rattle.scim_filter_grammar.specs.Tree.{Tree, Or, And, Not, Present, Compare,
 use Rattle.scim_filter.specs.Truth.{is_present, leaf_compares, compares, some_position, truth}
 use Rattle.scim_filter_grammar.specs.Types.{leaf_for, compared_leaf}
 use Rattle.scim_policy.specs.Rules.{Rule, Target}
-use Rattle.scim_policy.specs.Decide.{holds_on, speaks_of, fits, first_of, decide}
+use Rattle.scim_policy.specs.Decide.{holds_on, speaks_of, fits_wholly, first_of, decide}
 use Rattle.scim_policy.specs.Control.{names_attribute, is_named_in, is_unique, control}
 
 -- whether one of some names is of an attribute
@@ -129,12 +129,12 @@ module _ (keep : Attribute → Bool) (client : List ℕ) (op : Op) (a b : Conten
   holds_same (t ∷ ts) passes =
       rw (same_kind, truth_same t.tree (λ x e. passes x (or_left _ _ e)), holds_same ts (λ x e. passes x (or_right _ _ e))) refl
 
-  fits_same : (r : Rule) → ((x : Attribute) → list_any (names_attribute x) r.targets ≡ true → keep x ≡ true) → fits client op a l r ≡ fits client op b l r
+  fits_same : (r : Rule) → ((x : Attribute) → list_any (names_attribute x) r.targets ≡ true → keep x ≡ true) → fits_wholly client op a l r ≡ fits_wholly client op b l r
   unfolding speaks_of
   fits_same r passes = rw (holds_same r.targets passes, same_kind) refl
 
   fitting_same : (n : ℕ) (rs : List Rule) → ((x : Attribute) → is_named_in rs x ≡ true → keep x ≡ true)
-      → filter (λ (numbered : ℕ × Rule). fits client op a l numbered.1) (enumerate_from n rs) ≡ filter (λ (numbered : ℕ × Rule). fits client op b l numbered.1) (enumerate_from n rs)
+      → filter (λ (numbered : ℕ × Rule). fits_wholly client op a l numbered.1) (enumerate_from n rs) ≡ filter (λ (numbered : ℕ × Rule). fits_wholly client op b l numbered.1) (enumerate_from n rs)
   fitting_same n [] passes = refl
   fitting_same n (r ∷ rs) passes =
       rw (fits_same r (λ x e. passes x (or_left _ _ e)), fitting_same (n + 1) rs (λ x e. passes x (or_right _ _ e))) refl

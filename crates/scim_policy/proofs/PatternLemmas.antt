@@ -15,8 +15,8 @@ use Rattle.scim_policy.specs.declared.rules.Decision.{Decision}
 use Rattle.scim_policy.specs.declared.patterns.PartialRule.{PartialRule}
 use Rattle.scim_policy.specs.declared.patterns.Patterns.{Patterns}
 use Rattle.scim_policy.specs.Rules.{FilteredPath, Rule}
-use Rattle.scim_policy.specs.Decide.{covers, covers_in, paths_on, speaks_of}
-use Rattle.scim_policy.specs.Patterns.{PatternRule, covers_in_part, decided_for, decision_of, filtered_on, filters_on, first_or_denied, fits_reading, is_for_value, pattern_rules, up_to_whole, whole_decision}
+use Rattle.scim_policy.specs.Decide.{covers, covers_in, covers_in_part, filtered_on, fits, paths_on, speaks_of}
+use Rattle.scim_policy.specs.Patterns.{PatternRule, decided_for, decision_of, filters_on, first_or_denied, is_for_value, pattern_rules, up_to_whole, whole_decision}
 use Rattle.scim_policy.specs.PatternTable.{partial_paths, is_before, counts, partial_rule, partial_rules, last_rule, rules_in}
 use Rattle.scim_policy.specs.Table.{or_else, decided}
 use Rattle.scim_policy.specs.code.Walk.{by_paths}
@@ -198,7 +198,7 @@ walk_whole c left all i ps rest walked l =
 
 -- the rules that fit, from the i-th on, from 0, by that one and those behind it
 from_next : (client : List ℕ) (c : Content) (l : Leaf) (rs : List Rule) (i : ℕ) (r : Rule) → i < length rs → r ≡ get_or rs i r
-    → fitting_from client c l (i + 1) (drop i rs) ≡ (if fits_reading client c l r then (i + 1, r) ∷ fitting_from client c l (i + 1 + 1) (drop (i + 1) rs) else fitting_from client c l (i + 1 + 1) (drop (i + 1) rs))
+    → fitting_from client c l (i + 1) (drop i rs) ≡ (if fits client Read c l r then (i + 1, r) ∷ fitting_from client c l (i + 1 + 1) (drop (i + 1) rs) else fitting_from client c l (i + 1 + 1) (drop (i + 1) rs))
 from_next client c l rs i r less there =
     at_drop_more (λ (qs : List Rule). fitting_from client c l (i + 1) qs) rs i r less
     ∙ ap (λ (q : Rule). fitting_from client c l (i + 1) (q ∷ drop (i + 1) rs)) (sym there)

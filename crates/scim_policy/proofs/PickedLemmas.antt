@@ -14,7 +14,7 @@ use Rattle.scim_policy.specs.declared.rules_about.NumberedRule.{NumberedRule}
 use Rattle.scim_policy.specs.declared.rules_about.RulesAbout.{RulesAbout}
 use Rattle.scim_policy.specs.declared.decisions.Decisions.{Decisions}
 use Rattle.scim_policy.specs.Rules.{Rule}
-use Rattle.scim_policy.specs.Decide.{covers_in, is_about, is_target_met, paths_on, fits, first_of, decide}
+use Rattle.scim_policy.specs.Decide.{covers_in, is_about, is_target_met, paths_on, fits_wholly, first_of, decide}
 use Rattle.scim_policy.specs.Picked.{numbered_rule, is_met_at, decided_by}
 use Rattle.scim_policy.specs.Table.{or_else, or_denied, decided, decision}
 use Rattle.scim_policy.specs.code.Walk.{by_paths}
@@ -33,22 +33,22 @@ ArePicked client op k rs i picked = map numbered_rule picked ++ all_about client
 
 -- ---- what the picked rules decide
 
--- a rule that names the client, the operation and the resource's kind fits where its target is met and it covers the leaf
-fits_met : (client : List ℕ) (op : Op) (c : Content) (l : Leaf) (n : ℕ × Rule) → is_about client op c.kind n.1 ≡ true → is_met_at c l n ≡ fits client op c l n.1
+-- a rule that names the client, the operation and the resource's kind fits_wholly where its target is met and it covers the leaf
+fits_met : (client : List ℕ) (op : Op) (c : Content) (l : Leaf) (n : ℕ × Rule) → is_about client op c.kind n.1 ≡ true → is_met_at c l n ≡ fits_wholly client op c l n.1
 fits_met client op c l n names =
     sym (ap (λ (b : Bool). b && covers_in c l n.1) (speaks_grouped client op c n.1 ∙ ap (λ (b : Bool). b && is_target_met c n.1) names))
 
 -- another doesn't fit
-fits_not : (client : List ℕ) (op : Op) (c : Content) (l : Leaf) (n : ℕ × Rule) → is_about client op c.kind n.1 ≡ false → false ≡ fits client op c l n.1
+fits_not : (client : List ℕ) (op : Op) (c : Content) (l : Leaf) (n : ℕ × Rule) → is_about client op c.kind n.1 ≡ false → false ≡ fits_wholly client op c l n.1
 fits_not client op c l n other =
     sym (ap (λ (b : Bool). b && covers_in c l n.1) (speaks_grouped client op c n.1 ∙ ap (λ (b : Bool). b && is_target_met c n.1) other))
 
 -- of those that name them, the rules that are met are those that fit
-met_fit : (client : List ℕ) (op : Op) (c : Content) (l : Leaf) (ns : List (ℕ × Rule)) → filter (is_met_at c l) (filter (λ (n : ℕ × Rule). is_about client op c.kind n.1) ns) ≡ filter (λ (n : ℕ × Rule). fits client op c l n.1) ns
+met_fit : (client : List ℕ) (op : Op) (c : Content) (l : Leaf) (ns : List (ℕ × Rule)) → filter (is_met_at c l) (filter (λ (n : ℕ × Rule). is_about client op c.kind n.1) ns) ≡ filter (λ (n : ℕ × Rule). fits_wholly client op c l n.1) ns
 met_fit client op c l [] = refl
 met_fit client op c l (n ∷ ns) =
     let more = filter (is_met_at c l) (filter (λ (m : ℕ × Rule). is_about client op c.kind m.1) ns) in
-    let fitting = ap (λ (ms : List (ℕ × Rule)). if fits client op c l n.1 then n ∷ ms else ms) (met_fit client op c l ns) in
+    let fitting = ap (λ (ms : List (ℕ × Rule)). if fits_wholly client op c l n.1 then n ∷ ms else ms) (met_fit client op c l ns) in
     elim (cases_Bool (is_about client op c.kind n.1)) [
       | inl names ↦ rw names (ap (λ (b : Bool). if b then n ∷ more else more) (fits_met client op c l n names) ∙ fitting)
       | inr other ↦ rw other (ap (λ (b : Bool). if b then n ∷ more else more) (fits_not client op c l n other) ∙ fitting)

@@ -1,4 +1,4 @@
--- What rules decide one after another is what the first that fits decides.
+-- What rules decide one after another is what the first that fits_wholly decides.
 use Rattle.std.proofs.Common.{◌≡◌, refl, sym, ap, ◌∙◌, ℕ, ◌+◌, true, List, [], ◌∷◌, length, get_or, drop, ◌<◌, inl, inr}
 use Rattle.std.specs.Prelude.{Option, None, filter}
 use Rattle.std.specs.List.{enumerate_from}
@@ -11,13 +11,13 @@ use Rattle.scim_policy.specs.declared.rules.Decision.{Decision}
 use Rattle.scim_policy.specs.declared.decisions.Decisions.{Decisions}
 use Rattle.scim_policy.specs.Rules.{Rule}
 use Rattle.scim_policy.specs.Table.{or_else}
-use Rattle.scim_policy.specs.Decide.{covers_in, paths_on, speaks_of, fits, first_of, decide}
+use Rattle.scim_policy.specs.Decide.{covers_in, paths_on, speaks_of, fits_wholly, first_of, decide}
 use Rattle.scim_policy.specs.Table.{or_denied, decided, decision}
 use Rattle.scim_policy.specs.code.Walk.{by_paths, by_rule, by_rules}
 use Rattle.scim_policy.proofs.TableLemmas.{or_or}
 
--- the first of numbered rules that decides is the first that fits
-pub first_decides : (client : List ℕ) (op : Op) (c : Content) (l : Leaf) (n : ℕ) (rs : List Rule) → or_denied (by_rules client op c l n rs) ≡ first_of (filter (λ (numbered : ℕ × Rule). fits client op c l numbered.1) (enumerate_from n rs))
+-- the first of numbered rules that decides is the first that fits_wholly
+pub first_decides : (client : List ℕ) (op : Op) (c : Content) (l : Leaf) (n : ℕ) (rs : List Rule) → or_denied (by_rules client op c l n rs) ≡ first_of (filter (λ (numbered : ℕ × Rule). fits_wholly client op c l numbered.1) (enumerate_from n rs))
 first_decides client op c l n [] = refl
 first_decides client op c l n (r ∷ rs) =
     let ih = first_decides client op c l (n + 1) rs in

@@ -6,7 +6,8 @@ use Rattle.scim_policy.specs.declared.rules.Decision.{Decision}
 use Rattle.scim_policy.specs.declared.patterns.PartialRule.{PartialRule}
 use Rattle.scim_policy.specs.declared.patterns.Patterns.{Patterns}
 use Rattle.scim_policy.specs.Rules.{FilteredPath}
-use Rattle.scim_policy.specs.Patterns.{PatternRule, covers_in_part, filters_on}
+use Rattle.scim_policy.specs.Decide.{covers_in_part}
+use Rattle.scim_policy.specs.Patterns.{PatternRule, filters_on}
 use Rattle.scim_policy.specs.Table.{or_denied, decided}
 
 -- the decision of a rule, and its paths with a value filter

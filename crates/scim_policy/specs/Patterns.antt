@@ -1,53 +1,17 @@
 -- Which rules decide on reading the values of a leaf: the pattern of the leaf.
-use Rattle.std.specs.Prelude.{ℕ, Bool, true, false, not, ◌&&◌, ◌||◌, List, [], ◌∷◌, ◌++◌, map, filter, Option, None, Some, if◌then◌else◌}
+use Rattle.std.specs.Prelude.{ℕ, Bool, true, false, not, List, [], ◌∷◌, ◌++◌, map, filter, Option, None, Some, if◌then◌else◌}
 use Rattle.std.specs.List.{list_any, enumerate_from}
-use Rattle.std.specs.Option.{option_eq}
-use denote.Enum.Bare.{sameb}
-use Rattle.scim_schema.specs.declared.Kind.{Kind}
 use Rattle.scim_schema.specs.declared.Op.TheVariants.{Read}
 use Rattle.scim_schema.specs.declared.Leaf.{Leaf}
-use Rattle.scim_schema.specs.declared.Attribute.{Attribute}
-use Rattle.scim_schema.specs.declared.Attribute.TheVariants.{Groups}
-use Rattle.scim_schema.specs.declared.SubAttribute.{SubAttribute}
-use Rattle.scim_schema.specs.contracts.Kind.{the_type as the_kind}
-use Rattle.scim_schema.specs.contracts.SubAttribute.{the_type as the_sub_attribute}
-use Rattle.scim_schema.specs.Characteristics.{is_multi_valued}
-use Rattle.scim_schema.specs.Units.{is_same_attribute}
 use Rattle.scim_cell.specs.Content.{Content}
 use Rattle.scim_cell.specs.Rows.{Row, rows}
-use Rattle.scim_filter_grammar.specs.Names.{attribute_meant}
-use Rattle.scim_filter_grammar.specs.Tree.{Tree, Values}
+use Rattle.scim_filter_grammar.specs.Tree.{Tree}
 use Rattle.scim_filter.specs.Truth.{truth_at, truth_in_value}
 use Rattle.scim_policy.specs.declared.rules.Decision.{Decision}
-use Rattle.scim_policy.specs.Rules.{FilteredPath, KindPaths, Rule}
-use Rattle.scim_policy.specs.Decide.{covers_in, speaks_of}
+use Rattle.scim_policy.specs.Rules.{FilteredPath, Rule}
+use Rattle.scim_policy.specs.Decide.{covers_in, covers_in_part, filtered_on, fits}
 
--- ---- which paths with a value filter cover a leaf
-
--- the attribute before the brackets of a value path; None for any other filter
-abbrev pub attribute_before : Tree → Option Attribute
-attribute_before (Values path inner) = attribute_meant path.meant
-attribute_before _ = None
-
--- whether the leaf is the sub-attribute after the brackets; true if none stands there
-abbrev pub is_after : Option SubAttribute → Leaf → Bool
-is_after None l = true
-is_after (Some b) l = option_eq (sameb the_sub_attribute) l.sub_attribute (Some b)
-
--- whether a path with a value filter covers the leaf at some values: the leaf's attribute is the one before the
--- brackets, is multi-valued and isn't `groups`, which is computed
-abbrev pub covers_in_part : Leaf → FilteredPath → Bool
-covers_in_part l p =
-    is_multi_valued l.attribute
-    && (not (is_same_attribute l.attribute Groups)
-    && (option_eq is_same_attribute (attribute_before p.tree) (Some l.attribute) && is_after p.sub_attribute l))
-
--- the paths with a value filter for a kind; empty if the rule isn't for the kind
-abbrev pub filtered_on : Kind → List KindPaths → List FilteredPath
-filtered_on k [] = []
-filtered_on k (p ∷ ps) = if sameb the_kind k p.kind then p.filtered else filtered_on k ps
-
--- the filters of those paths that cover the leaf
+-- the filters of those paths with a value filter that cover the leaf
 abbrev pub filters_on : Leaf → List FilteredPath → List Tree
 filters_on l ps = map (λ (p : FilteredPath). p.tree) (filter (covers_in_part l) ps)
 
@@ -58,10 +22,6 @@ filters_on l ps = map (λ (p : FilteredPath). p.tree) (filter (covers_in_part l)
 pub record PatternRule : Type 0 where
   pub decision : Decision
   pub filters : Option (List Tree)
-
--- whether the rule is for reading the resource by the client, and covers the leaf at all values or at some
-abbrev pub fits_reading : List ℕ → Content → Leaf → Rule → Bool
-fits_reading client c l r = speaks_of client Read c r && (covers_in c l r || list_any (covers_in_part l) (filtered_on c.kind r.paths))
 
 -- the decision of a numbered rule
 abbrev pub decision_of : (ℕ × Rule) → Decision
@@ -79,7 +39,7 @@ up_to_whole c l (n ∷ more) =
 -- the rules that decide on reading the values of a leaf, in order: those that fit, up to and with the first that
 -- covers the leaf at all values
 unfoldable pub pattern_rules : List Rule → List ℕ → Content → Leaf → List PatternRule
-pattern_rules policy client c l = up_to_whole c l (filter (λ (numbered : ℕ × Rule). fits_reading client c l numbered.1) (enumerate_from 1 policy))
+pattern_rules policy client c l = up_to_whole c l (filter (λ (numbered : ℕ × Rule). fits client Read c l numbered.1) (enumerate_from 1 policy))
 
 -- the decisions of rules of a pattern
 abbrev pub decisions_of : List PatternRule → List Decision

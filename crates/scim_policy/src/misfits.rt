@@ -2,7 +2,7 @@
 ghost use Rattle.std.specs.Prelude.{◌≡◌, ◌≤◌, ◌-◌, IfOk, Some, length, not, is_some, option_map, slice_get};
 ghost use Rattle.scim_policy.specs.Decide as spec;
 
-use crate::rule_fit::{covers, is_kind, is_named, is_op};
+use crate::rule_fit::{is_kind, is_named, is_op};
 use crate::rules::{Policy, Rule};
 use scim_schema::{Leaf, Op};
 use scim_text::NoMemory;
@@ -18,7 +18,8 @@ pub enum Misfit {
     Op,
     /// The rule is for other kinds of resources.
     Kind,
-    /// The rule doesn't cover the leaf on resources of this kind.
+    /// The rule doesn't cover the leaf on resources of this kind, neither at all values nor, for reading, at
+    /// some.
     Path,
     /// The rule's target doesn't match the resource.
     Target,
@@ -52,7 +53,8 @@ impl Rule {
     /// Returns the part of the rule that doesn't fit the request; the first one in the order of [`Misfit`] if
     /// several don't fit.
     ///
-    /// `None` if the rule is for the client, the operation and the resource, and covers the leaf.
+    /// `None` if the rule is for the client, the operation and the resource, and covers the leaf at all values
+    /// or, for reading, at some.
     #[tactic(auto, unfolding(crate::specs::Decide::speaks_of))]
     pub fn misfit(
         &self,
@@ -73,7 +75,7 @@ impl Rule {
             Some(Misfit::Op)
         } else if !is_kind(self.kinds(), resource.kind()) {
             Some(Misfit::Kind)
-        } else if !covers(self.paths_on(resource.kind()), leaf) {
+        } else if !self.covers_for(op, resource, leaf) {
             Some(Misfit::Path)
         } else if !self.is_target_met(alloc, resource)? {
             Some(Misfit::Target)

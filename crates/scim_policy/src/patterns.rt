@@ -12,9 +12,10 @@ ghost use Rattle.scim_policy.specs.Table.{decided};
 ghost use Rattle.scim_policy.specs.code.PatternWalk.{AddsRule};
 
 use crate::decisions::Decisions;
+use crate::rule_fit::covers_some;
 use crate::rules::{Decision, FilteredPath, Policy, Rule};
 use scim_filter::holds_at;
-use scim_schema::{Attribute, Kind, Leaf, Op, SubAttribute, is_multi_valued};
+use scim_schema::{Kind, Leaf, Op};
 use scim_text::{NoMemory, push};
 use scim_value::Resource;
 use std::alloc::Global;
@@ -239,34 +240,5 @@ impl PartialRule<'_> {
             }
         }
         Ok(false)
-    }
-}
-
-/// Whether one of the paths covers the leaf at some values.
-fn covers_some(paths: &[FilteredPath], leaf: Leaf) -> bool
-    ensures { result ≡ list_any (spec.covers_in_part leaf) paths.now }
-{
-    paths.iter().any(|path| path.covers(leaf))
-}
-
-impl FilteredPath {
-    /// Whether the path covers the leaf at some values.
-    fn covers(&self, leaf: Leaf) -> bool
-        ensures { result ≡ spec.covers_in_part leaf self.now }
-    {
-        is_multi_valued(leaf.attribute)
-            && leaf.attribute != Attribute::Groups
-            && self.attribute() == Some(leaf.attribute)
-            && is_after(self.sub_attribute(), leaf)
-    }
-}
-
-/// Whether the leaf is the sub-attribute after the brackets of a path. True if none stands there.
-fn is_after(sub_attribute: Option<SubAttribute>, leaf: Leaf) -> bool
-    ensures { result ≡ spec.is_after sub_attribute leaf }
-{
-    match sub_attribute {
-        Some(sub_attribute) => leaf.sub_attribute == Some(sub_attribute),
-        None => true,
     }
 }

@@ -1,5 +1,5 @@
 //! Decides whether a rule fits a request.
-ghost use Rattle.std.specs.Prelude.{◌≡◌, IfOk};
+ghost use Rattle.std.specs.Prelude.{◌≡◌, ◌||◌, IfOk};
 ghost use Rattle.std.specs.List.{list_any};
 ghost use denote.Enum.Bare.{sameb};
 ghost use Rattle.scim_schema.specs.contracts.Kind.{the_type as the_kind};
@@ -7,9 +7,9 @@ ghost use Rattle.scim_schema.specs.contracts.Op.{the_type as the_op};
 ghost use Rattle.scim_policy.specs.Decide as spec;
 ghost use Rattle.scim_policy.specs.code.Walk as walk;
 
-use crate::rules::{ClientName, PolicyPath, Rule, Target};
+use crate::rules::{ClientName, FilteredPath, PolicyPath, Rule, Target};
 use scim_filter::holds;
-use scim_schema::{Kind, Leaf, Op};
+use scim_schema::{Attribute, Kind, Leaf, Op, SubAttribute, is_multi_valued};
 use scim_text::NoMemory;
 use scim_value::Resource;
 use std::alloc::Global;
@@ -49,6 +49,26 @@ impl Rule {
                 && is_kind(self.kinds(), resource.kind())
                 && self.is_target_met(alloc, resource)?,
         )
+    }
+
+    /// Whether the rule covers the leaf at all values on resources of the kind.
+    pub fn covers(&self, kind: Kind, leaf: Leaf) -> bool
+        ensures { result ≡ list_any (spec.covers leaf) (spec.paths_on kind self.now.paths) }
+    {
+        covers(self.paths_on(kind), leaf)
+    }
+
+    /// Whether the rule covers the leaf for the operation: at all values or, for reading, at some.
+    pub(crate) fn covers_for(&self, op: Op, resource: &Resource, leaf: Leaf) -> bool
+        ensures { result ≡ (spec.covers_in resource.now leaf self.now
+            || spec.covers_partly op resource.now leaf self.now) }
+    {
+        let kind = resource.kind();
+        let covers_partly = match op {
+            Op::Read => covers_some(self.filtered_on(kind), leaf),
+            _ => false,
+        };
+        covers_partly || self.covers(kind, leaf)
     }
 
     /// Whether the rule has no target, or its target matches the resource.
@@ -94,8 +114,15 @@ pub(crate) fn is_kind(kinds: &[Kind], kind: Kind) -> bool
 }
 
 /// Whether any path covers the leaf.
-pub(crate) fn covers(paths: &[PolicyPath], leaf: Leaf) -> bool
+fn covers(paths: &[PolicyPath], leaf: Leaf) -> bool
     ensures { result ≡ list_any (spec.covers leaf) paths.now }
+{
+    paths.iter().any(|path| path.covers(leaf))
+}
+
+/// Whether one of the paths covers the leaf at some values.
+pub(crate) fn covers_some(paths: &[FilteredPath], leaf: Leaf) -> bool
+    ensures { result ≡ list_any (spec.covers_in_part leaf) paths.now }
 {
     paths.iter().any(|path| path.covers(leaf))
 }
@@ -124,5 +151,27 @@ impl PolicyPath {
                 Leaf::of(attribute, sub_attribute) == leaf
             }
         }
+    }
+}
+
+impl FilteredPath {
+    /// Whether the path covers the leaf at some values.
+    pub(crate) fn covers(&self, leaf: Leaf) -> bool
+        ensures { result ≡ spec.covers_in_part leaf self.now }
+    {
+        is_multi_valued(leaf.attribute)
+            && leaf.attribute != Attribute::Groups
+            && self.attribute() == Some(leaf.attribute)
+            && is_after(self.sub_attribute(), leaf)
+    }
+}
+
+/// Whether the leaf is the sub-attribute after the brackets of a path. True if none stands there.
+fn is_after(sub_attribute: Option<SubAttribute>, leaf: Leaf) -> bool
+    ensures { result ≡ spec.is_after sub_attribute leaf }
+{
+    match sub_attribute {
+        Some(sub_attribute) => leaf.sub_attribute == Some(sub_attribute),
+        None => true,
     }
 }

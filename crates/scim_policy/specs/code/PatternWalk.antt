@@ -2,13 +2,14 @@
 use Rattle.std.specs.Prelude.{◌≡◌, ◌≤◌, ℕ, ◌+◌, List, [], ◌∷◌, ◌++◌, map, filter, drop, All, Option, None, Some}
 use Rattle.std.specs.List.{enumerate_from}
 use Rattle.scim_schema.specs.declared.Kind.{Kind}
+use Rattle.scim_schema.specs.declared.Op.TheVariants.{Read}
 use Rattle.scim_schema.specs.declared.Leaf.{Leaf}
 use Rattle.scim_cell.specs.Content.{Content}
 use Rattle.scim_policy.specs.declared.rules.Decision.{Decision}
 use Rattle.scim_policy.specs.declared.patterns.Patterns.{Patterns}
 use Rattle.scim_policy.specs.Rules.{FilteredPath, Rule}
-use Rattle.scim_policy.specs.Decide.{paths_on}
-use Rattle.scim_policy.specs.Patterns.{PatternRule, filtered_on, fits_reading, up_to_whole}
+use Rattle.scim_policy.specs.Decide.{filtered_on, fits, paths_on}
+use Rattle.scim_policy.specs.Patterns.{PatternRule, up_to_whole}
 use Rattle.scim_policy.specs.PatternTable.{partial_paths, partial_rules, last_rule}
 use Rattle.scim_policy.specs.Table.{or_else, decided}
 use Rattle.scim_policy.specs.code.Walk.{by_paths}
@@ -31,7 +32,7 @@ rules_left c l (Some d) fitting = last_rule (Some d) ∷ []
 
 -- the rules that fit, of rules numbered from n
 abbrev pub fitting_from : List ℕ → Content → Leaf → ℕ → List Rule → List (ℕ × Rule)
-fitting_from client c l n rs = filter (λ (numbered : ℕ × Rule). fits_reading client c l numbered.1) (enumerate_from n rs)
+fitting_from client c l n rs = filter (λ (numbered : ℕ × Rule). fits client Read c l numbered.1) (enumerate_from n rs)
 
 -- a table to which the rules up to a number were added gives, with the rules that are left, all rules of each
 -- leaf's pattern
