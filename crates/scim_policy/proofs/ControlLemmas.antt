@@ -8,6 +8,7 @@ use Rattle.std.proofs.lemmas.List.Folds.{list_any-append}
 use denote.Enum.Bare.{sameb, true_same}
 use Rattle.scim_schema.specs.declared.Kind.{Kind}
 use Rattle.scim_schema.specs.declared.Op.{Op}
+use Rattle.scim_schema.specs.declared.Op.TheVariants.{Read}
 use Rattle.scim_schema.specs.declared.Leaf.{Leaf}
 use Rattle.scim_schema.specs.declared.Attribute.{Attribute}
 use Rattle.scim_schema.specs.declared.SubAttribute.{SubAttribute}
@@ -32,7 +33,9 @@ use Rattle.scim_filter_grammar.specs.Tree.{Tree, Or, And, Not, Present, Compare,
 use Rattle.scim_filter.specs.Truth.{is_present, leaf_compares, compares, some_position, truth}
 use Rattle.scim_filter_grammar.specs.Types.{leaf_for, compared_leaf}
 use Rattle.scim_policy.specs.Rules.{Rule, Target}
-use Rattle.scim_policy.specs.Decide.{holds_on, speaks_of, fits_wholly, first_of, decide}
+use Rattle.scim_policy.specs.Decide.{holds_on, speaks_of, fits, fits_wholly, first_of, decide}
+use Rattle.scim_policy.specs.Patterns.{pattern_rules, up_to_whole}
+use Rattle.scim_policy.specs.PatternLaws.{PatternsRestOnControl}
 use Rattle.scim_policy.specs.Control.{names_attribute, is_named_in, is_unique, control}
 
 -- whether one of some names is of an attribute
@@ -138,6 +141,31 @@ module _ (keep : Attribute → Bool) (client : List ℕ) (op : Op) (a b : Conten
   fitting_same n [] passes = refl
   fitting_same n (r ∷ rs) passes =
       rw (fits_same r (λ x e. passes x (or_left _ _ e)), fitting_same (n + 1) rs (λ x e. passes x (or_right _ _ e))) refl
+
+  -- the same of rules that fit at some values, and of the pattern that they make
+  reading_fits_same : (r : Rule) → ((x : Attribute) → list_any (names_attribute x) r.targets ≡ true → keep x ≡ true) → fits client Read a l r ≡ fits client Read b l r
+  unfolding speaks_of
+  reading_fits_same r passes = rw (holds_same r.targets passes, same_kind) refl
+
+  reading_same : (n : ℕ) (rs : List Rule) → ((x : Attribute) → is_named_in rs x ≡ true → keep x ≡ true)
+      → filter (λ (numbered : ℕ × Rule). fits client Read a l numbered.1) (enumerate_from n rs) ≡ filter (λ (numbered : ℕ × Rule). fits client Read b l numbered.1) (enumerate_from n rs)
+  reading_same n [] passes = refl
+  reading_same n (r ∷ rs) passes =
+      rw (reading_fits_same r (λ x e. passes x (or_left _ _ e)), reading_same (n + 1) rs (λ x e. passes x (or_right _ _ e))) refl
+
+  up_to_whole_same : (ns : List (ℕ × Rule)) → up_to_whole a l ns ≡ up_to_whole b l ns
+  up_to_whole_same [] = refl
+  up_to_whole_same (n ∷ ns) = rw (same_kind, up_to_whole_same ns) refl
+
+-- on resources of one kind with equal values in control, a leaf's pattern has the same rules
+pub patterns_same : PatternsRestOnControl
+unfolding pattern_rules control
+patterns_same policy client a b l same_kind same =
+    let keep = λ (x : Attribute). is_named_in policy x || is_unique a.kind x in
+    let same_rows : kept_rows keep (rows a) ≡ kept_rows keep (rows b) =
+    same ∙ ap (λ (k : Kind). kept_rows (λ (x : Attribute). is_named_in policy x || is_unique k x) (rows b)) (sym same_kind) in
+    ap (up_to_whole a l) (reading_same keep client Read a b l same_kind same_rows 1 policy (λ x e. or_left _ _ e))
+    ∙ up_to_whole_same keep client Read a b l same_kind same_rows _
 
 -- on resources of one kind with equal values in control, a policy decides alike
 pub decide_same : (policy : List Rule) (client : List ℕ) (op : Op) (a b : Content) (l : Leaf) → a.kind ≡ b.kind → control policy a ≡ control policy b → decide policy client op a l ≡ decide policy client op b l

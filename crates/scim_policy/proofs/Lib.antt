@@ -1,5 +1,6 @@
 pub mod AccessLemmas
 pub mod ControlLemmas
+pub mod PatternLawLemmas
 pub mod PatternLemmas
 pub mod PickedLemmas
 pub mod RuleLemmas

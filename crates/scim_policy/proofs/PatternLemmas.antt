@@ -76,10 +76,10 @@ abbrev given : Content → Leaf → Option Decision → List (Decision × List F
 given c l o ps ns = partial_rules l o ps ++ rules_left c l o ns
 
 -- a rule in front of those that are left
-whole_first : (c : Content) (l : Leaf) (n : ℕ × Rule) (ns : List (ℕ × Rule)) → covers_in c l n.1 ≡ true → up_to_whole c l (n ∷ ns) ≡ last_rule (Some (decision_of n)) ∷ []
+pub whole_first : (c : Content) (l : Leaf) (n : ℕ × Rule) (ns : List (ℕ × Rule)) → covers_in c l n.1 ≡ true → up_to_whole c l (n ∷ ns) ≡ last_rule (Some (decision_of n)) ∷ []
 whole_first c l n ns whole = rw whole refl
 
-partial_first : (c : Content) (l : Leaf) (n : ℕ × Rule) (ns : List (ℕ × Rule)) → covers_in c l n.1 ≡ false → up_to_whole c l (n ∷ ns) ≡ record { decision = decision_of n; filters = Some (filters_on l (filtered_on c.kind n.1.paths)) } ∷ up_to_whole c l ns
+pub partial_first : (c : Content) (l : Leaf) (n : ℕ × Rule) (ns : List (ℕ × Rule)) → covers_in c l n.1 ≡ false → up_to_whole c l (n ∷ ns) ≡ record { decision = decision_of n; filters = Some (filters_on l (filtered_on c.kind n.1.paths)) } ∷ up_to_whole c l ns
 partial_first c l n ns other = rw other refl
 
 -- the rules that are left, with one before them if it covers the leaf at all values or at some

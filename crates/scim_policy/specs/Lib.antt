@@ -2,8 +2,9 @@ pub mod code
 pub mod Access
 pub mod Control
 pub mod Decide
-pub mod Patterns
+pub mod PatternLaws
 pub mod PatternTable
+pub mod Patterns
 pub mod Picked
 pub mod Rules
 pub mod Table

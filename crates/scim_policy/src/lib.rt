@@ -4,6 +4,10 @@
 //! attributes of some kinds of resources. A rule with a target applies only to resources that match it. The
 //! first rule that fits decides; if none fits, rule 0 denies.
 //!
+//! A rule for reading may cover an attribute at some values only: those that match a value filter. Then the
+//! first rule that fits and is for a value decides on reading the value. The rules that may decide, up to the
+//! first that covers the leaf at all values, are the pattern of the leaf.
+//!
 //! Cases: `crates/cases/data/policy.jsonl`.
 #![tactic(auto)]
 
@@ -19,7 +23,10 @@ mod shared_decisions;
 
 pub use access_rights::Rights;
 pub use decisions::Decisions;
-pub use laws::decisions_rest_on_control;
+pub use laws::{
+    decisions_rest_on_control, patterns_rest_on_control, plain_policies_decide_once,
+    positions_are_decided_by_value, wholes_allow_each_value,
+};
 pub use misfits::Misfit;
 pub use patterns::Patterns;
 pub use rules::{ClientName, Decision, FilteredPath, KindPaths, Policy, PolicyPath, Rule, Target};
