@@ -6,4 +6,5 @@ pub mod PickedLemmas
 pub mod RuleLemmas
 pub mod SharedLemmas
 pub mod TableLemmas
+pub mod ValueLemmas
 pub mod Facts

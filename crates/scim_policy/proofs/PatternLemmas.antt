@@ -12,7 +12,6 @@ use Rattle.scim_schema.specs.declared.Leaf.{Leaf}
 use Rattle.scim_cell.specs.Content.{Content}
 use Rattle.scim_filter_grammar.specs.Tree.{Tree}
 use Rattle.scim_policy.specs.declared.rules.Decision.{Decision}
-use Rattle.scim_policy.specs.declared.patterns.PartialRule.{PartialRule}
 use Rattle.scim_policy.specs.declared.patterns.Patterns.{Patterns}
 use Rattle.scim_policy.specs.Rules.{FilteredPath, Rule}
 use Rattle.scim_policy.specs.Decide.{covers, covers_in, covers_in_part, filtered_on, fits, paths_on, speaks_of}
@@ -277,31 +276,31 @@ whole_still (Some first) d ds is allows = whole_kept first d ds allows
 
 -- ---- the rules of a table, one after another
 
--- the rules of a leaf's pattern from the i-th of the table on, from 0, and the last
-abbrev pub rules_from : Leaf → Option Decision → List PartialRule → ℕ → List PatternRule
-rules_from l o rs i = partial_rules l o (map partial_paths (drop i rs)) ++ last_rule o ∷ []
+-- the rules of a leaf's pattern from the i-th on, from 0, of rules of which f tells the decision and the paths; and
+-- the last
+abbrev pub rules_from : {X : Type 0} → (X → Decision × List FilteredPath) → Leaf → Option Decision → List X → ℕ → List PatternRule
+rules_from f l o rs i = partial_rules l o (map f (drop i rs)) ++ last_rule o ∷ []
 
-from_counted : (l : Leaf) (o : Option Decision) (rs : List PartialRule) (p : PartialRule) (i : ℕ) → counts l o (partial_paths p) ≡ true
-    → partial_rules l o (map partial_paths (p ∷ drop (i + 1) rs)) ++ last_rule o ∷ [] ≡ partial_rule l (partial_paths p) ∷ rules_from l o rs (i + 1)
-from_counted l o rs p i counted = rw counted refl
+module _ {X : Type 0} (f : X → Decision × List FilteredPath) (l : Leaf) (o : Option Decision) (rs : List X) (p : X) (i : ℕ) where
+  from_counted : counts l o (f p) ≡ true
+      → partial_rules l o (map f (p ∷ drop (i + 1) rs)) ++ last_rule o ∷ [] ≡ partial_rule l (f p) ∷ rules_from f l o rs (i + 1)
+  from_counted counted = rw counted refl
 
-from_other : (l : Leaf) (o : Option Decision) (rs : List PartialRule) (p : PartialRule) (i : ℕ) → counts l o (partial_paths p) ≡ false
-    → partial_rules l o (map partial_paths (p ∷ drop (i + 1) rs)) ++ last_rule o ∷ [] ≡ rules_from l o rs (i + 1)
-from_other l o rs p i other = rw other refl
+  from_other : counts l o (f p) ≡ false
+      → partial_rules l o (map f (p ∷ drop (i + 1) rs)) ++ last_rule o ∷ [] ≡ rules_from f l o rs (i + 1)
+  from_other other = rw other refl
 
-from_item : (l : Leaf) (o : Option Decision) (rs : List PartialRule) (p : PartialRule) (i : ℕ) → i < length rs → p ≡ get_or rs i p
-    → rules_from l o rs i ≡ partial_rules l o (map partial_paths (p ∷ drop (i + 1) rs)) ++ last_rule o ∷ []
-from_item l o rs p i less there =
-    at_drop_more (λ (qs : List PartialRule). partial_rules l o (map partial_paths qs) ++ last_rule o ∷ []) rs i p less
-    ∙ ap (λ (q : PartialRule). partial_rules l o (map partial_paths (q ∷ drop (i + 1) rs)) ++ last_rule o ∷ []) (sym there)
+  from_item : i < length rs → p ≡ get_or rs i p
+      → rules_from f l o rs i ≡ partial_rules l o (map f (p ∷ drop (i + 1) rs)) ++ last_rule o ∷ []
+  from_item less there =
+      at_drop_more (λ (qs : List X). partial_rules l o (map f qs) ++ last_rule o ∷ []) rs i p less
+      ∙ ap (λ (q : X). partial_rules l o (map f (q ∷ drop (i + 1) rs)) ++ last_rule o ∷ []) (sym there)
 
-pub rules_counted : (l : Leaf) (o : Option Decision) (rs : List PartialRule) (p : PartialRule) (i : ℕ) → i < length rs → p ≡ get_or rs i p → counts l o (partial_paths p) ≡ true
-    → rules_from l o rs i ≡ partial_rule l (partial_paths p) ∷ rules_from l o rs (i + 1)
-rules_counted l o rs p i less there counted = from_item l o rs p i less there ∙ from_counted l o rs p i counted
+  pub rules_counted : i < length rs → p ≡ get_or rs i p → counts l o (f p) ≡ true → rules_from f l o rs i ≡ partial_rule l (f p) ∷ rules_from f l o rs (i + 1)
+  rules_counted less there counted = from_item less there ∙ from_counted counted
 
-pub rules_other : (l : Leaf) (o : Option Decision) (rs : List PartialRule) (p : PartialRule) (i : ℕ) → i < length rs → p ≡ get_or rs i p → counts l o (partial_paths p) ≡ false
-    → rules_from l o rs i ≡ rules_from l o rs (i + 1)
-rules_other l o rs p i less there other = from_item l o rs p i less there ∙ from_other l o rs p i other
+  pub rules_other : i < length rs → p ≡ get_or rs i p → counts l o (f p) ≡ false → rules_from f l o rs i ≡ rules_from f l o rs (i + 1)
+  rules_other less there other = from_item less there ∙ from_other other
 
 -- the first rule that is for a value decides on it
 pub decided_now : (matches : Tree → Bool) (r : PatternRule) (rs : List PatternRule) → is_for_value matches r ≡ true → decided_for matches (r ∷ rs) ≡ r.decision

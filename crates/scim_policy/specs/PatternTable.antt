@@ -36,6 +36,10 @@ partial_rules l whole ps = map (partial_rule l) (filter (counts l whole) ps)
 abbrev pub last_rule : Option Decision → PatternRule
 last_rule whole = record { decision = or_denied whole; filters = None }
 
+-- the decision of the last rule of a leaf's pattern in a table
+unfoldable pub last_decision : Patterns → Leaf → Decision
+last_decision ps l = or_denied (decided ps.last l)
+
 -- the rules of a leaf's pattern in a table
 unfoldable pub rules_in : Patterns → Leaf → List PatternRule
 rules_in ps l = partial_rules l (decided ps.last l) (map partial_paths ps.partial.items) ++ last_rule (decided ps.last l) ∷ []

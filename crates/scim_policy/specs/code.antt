@@ -2,4 +2,5 @@
 pub mod Inside
 pub mod Steps
 pub mod PatternWalk
+pub mod ValueWalk
 pub mod Walk

@@ -1,20 +1,24 @@
 //! Decides on reading the values of a resource: for each leaf, the rules that decide on some values, and the
 //! rule that decides on all others.
-ghost use Rattle.std.specs.Prelude.{◌≡◌, [], None, IfOk, OnOk};
+ghost use Rattle.std.specs.Prelude.{◌≡◌, ◌∷◌, ◌++◌, [], true, None, IfOk, OnOk, map};
 ghost use Rattle.std.specs.List.{list_any};
 ghost use Rattle.scim_schema.specs.declared.Leaf.{Leaf};
 ghost use Rattle.scim_cell.specs.Rows.{rows};
-ghost use Rattle.scim_filter.specs.Truth.{truth_at};
+ghost use Rattle.scim_filter.specs.Truth.{truth_at, truth_in_value};
+ghost use Rattle.scim_policy.specs.Decide.{covers_in_part};
 ghost use Rattle.scim_policy.specs.Patterns as spec;
 ghost use Rattle.scim_policy.specs.PatternTable as table;
 ghost use Rattle.scim_policy.specs.PatternTable.{rules_in};
 ghost use Rattle.scim_policy.specs.Table.{decided};
 ghost use Rattle.scim_policy.specs.code.PatternWalk.{AddsRule};
+ghost use Rattle.scim_policy.specs.code.ValueWalk as values;
+ghost use Rattle.scim_policy.specs.code.ValueWalk.{matching, matching_paths};
 
 use crate::decisions::Decisions;
 use crate::rule_fit::covers_some;
 use crate::rules::{Decision, FilteredPath, Policy, Rule};
-use scim_filter::holds_at;
+use scim_cell::{Field, Row};
+use scim_filter::{holds_at, holds_of};
 use scim_schema::{Kind, Leaf, Op};
 use scim_text::{NoMemory, push};
 use scim_value::Resource;
@@ -43,6 +47,13 @@ impl Drop for Patterns<'_> {
 struct PartialRule<'p> {
     decision: Decision,
     filtered: &'p [FilteredPath],
+}
+
+/// A rule with the paths whose value filter a value matches.
+#[derive(Drop)]
+struct MatchingRule<'p> {
+    decision: Decision,
+    matched: Vec<&'p FilteredPath>,
 }
 
 impl Policy {
@@ -183,6 +194,71 @@ impl Patterns<'_> {
         }
     }
 
+    /// Whether the pattern of each leaf has one rule, as in a policy without value filters. False may be said of
+    /// such patterns too.
+    #[tactic(auto, unfolding(crate::specs::PatternTable::rules_in, crate::specs::PatternTable::last_decision))]
+    pub fn is_plain(&self) -> bool
+        ensures { result ≡ true → (l : Leaf) → rules_in self.now l
+            ≡ record { decision = table.last_decision self.now l; filters = None } ∷ [] }
+    {
+        self.partial.is_empty()
+    }
+
+    /// The decision of the last rule of the leaf's pattern.
+    #[tactic(auto, unfolding(crate::specs::PatternTable::last_decision, crate::specs::Table::decision))]
+    pub fn last(&self, leaf: Leaf) -> Decision
+        ensures { result ≡ table.last_decision self.now leaf }
+    {
+        self.last.of(leaf)
+    }
+
+    /// Whether some rule of the leaf's pattern allows.
+    #[tactic(auto, unfolding(crate::specs::PatternTable::rules_in, crate::specs::Table::decision))]
+    pub fn allows_some(&self, leaf: Leaf) -> bool
+        ensures { result ≡ list_any (λ d. d.allow) (spec.decisions_of (rules_in self.now leaf)) }
+    {
+        let whole = self.last.decided(leaf);
+        for rule in &self.partial {
+            if rule.counts(leaf, whole) && rule.decision.allow {
+                return true;
+            }
+        }
+        self.last.of(leaf).allow
+    }
+
+    /// Whether each field of a value may be read, in the order of the fields. The value must be a stored one,
+    /// with all its fields.
+    ///
+    /// Each value filter is evaluated at most once.
+    pub fn allowed(&self, alloc: Global, value: &Row) -> Result<Vec<bool>, NoMemory>
+        ensures { IfOk result (λ v. v.items ≡ map (λ f. (spec.decided_for
+            (λ t. truth_in_value t value.now) (rules_in self.now f.leaf)).allow) value.now.fields) }
+    {
+        let matching = matching_rules(alloc, self.partial.as_slice(), value)?;
+        let mut allowed = Vec::new(alloc);
+        for field in value.fields() {
+            push(&mut allowed, self.allows(matching.as_slice(), field.leaf))?;
+        }
+        Ok(allowed)
+    }
+
+    /// Whether the first of the rules that covers the leaf allows, or the last rule of the leaf's pattern if none
+    /// does.
+    #[tactic(auto, unfolding(crate::specs::Table::decision))]
+    fn allows(&self, matching: &[MatchingRule<'_>], leaf: Leaf) -> bool
+        ensures { result ≡ (spec.first_or_denied (spec.decisions_of
+            (table.partial_rules leaf (decided self.now.last leaf) (map matching_paths matching.now)
+            ++ table.last_rule (decided self.now.last leaf) ∷ []))).allow }
+    {
+        let whole = self.last.decided(leaf);
+        for rule in matching {
+            if rule.counts(leaf, whole) {
+                return rule.decision.allow;
+            }
+        }
+        self.last.of(leaf).allow
+    }
+
     /// The decision on the leaf at `position` of the resource, counted from 0: that of the first rule of the
     /// pattern that is for the value there.
     ///
@@ -215,11 +291,7 @@ impl PartialRule<'_> {
     fn counts(&self, leaf: Leaf, whole: Option<Decision>) -> bool
         ensures { result ≡ table.counts leaf whole (table.partial_paths self.now) }
     {
-        let is_before = match whole {
-            Some(whole) => self.decision.rule < whole.rule,
-            None => true,
-        };
-        is_before && covers_some(self.filtered, leaf)
+        is_before(self.decision, whole) && covers_some(self.filtered, leaf)
     }
 
     /// Whether one of the rule's filters for the leaf matches the value at `position`.
@@ -241,4 +313,78 @@ impl PartialRule<'_> {
         }
         Ok(false)
     }
+}
+
+impl MatchingRule<'_> {
+    /// Whether one of the paths covers the leaf, and the rule comes before the first that covers the leaf at all
+    /// values: the one that decided `whole`.
+    fn counts(&self, leaf: Leaf, whole: Option<Decision>) -> bool
+        ensures { result ≡ table.counts leaf whole (matching_paths self.now) }
+    {
+        is_before(self.decision, whole) && covers_one(self.matched.as_slice(), leaf)
+    }
+}
+
+/// Whether the rule of the decision has a lower number than the rule that decided `whole`. True if none did.
+fn is_before(decision: Decision, whole: Option<Decision>) -> bool
+    ensures { result ≡ table.is_before decision.rule whole }
+{
+    match whole {
+        Some(whole) => decision.rule < whole.rule,
+        None => true,
+    }
+}
+
+/// Returns the rules with only their paths that cover a field of the value and whose filter the value matches.
+fn matching_rules<'p>(
+    alloc: Global,
+    rules: &[PartialRule<'p>],
+    value: &Row,
+) -> Result<Vec<MatchingRule<'p>>, NoMemory>
+    ensures { IfOk result (λ v. map matching_paths v.items
+        ≡ map (matching value.now) (map table.partial_paths rules.now)) }
+{
+    let mut found = Vec::new(alloc);
+    for rule in rules {
+        let matched = matched_in(alloc, rule.filtered, value)?;
+        let decision = rule.decision;
+        push(&mut found, MatchingRule { decision, matched })?;
+    }
+    Ok(found)
+}
+
+/// Returns the paths that cover a field of the value and whose filter the value matches.
+fn matched_in<'p>(
+    alloc: Global,
+    paths: &'p [FilteredPath],
+    value: &Row,
+) -> Result<Vec<&'p FilteredPath>, NoMemory>
+    ensures { IfOk result (λ v. map (λ p. p.now) v.items ≡ values.matched_in value.now paths.now) }
+{
+    let mut matched = Vec::new(alloc);
+    for path in paths {
+        if covers_field(path, value.fields()) && holds_of(alloc, path.filter(), value)? {
+            push(&mut matched, path)?;
+        }
+    }
+    Ok(matched)
+}
+
+/// Whether one of the paths covers the leaf at some values.
+fn covers_one(paths: &[&FilteredPath], leaf: Leaf) -> bool
+    ensures { result ≡ list_any (covers_in_part leaf) (map (λ p. p.now) paths.now) }
+{
+    for path in paths {
+        if path.covers(leaf) {
+            return true;
+        }
+    }
+    false
+}
+
+/// Whether the path covers one of the fields at some values.
+fn covers_field(path: &FilteredPath, fields: &[Field]) -> bool
+    ensures { result ≡ values.covers_field fields.now path.now }
+{
+    fields.iter().any(|field| path.covers(field.leaf))
 }

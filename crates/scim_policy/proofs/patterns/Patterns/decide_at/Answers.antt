@@ -20,11 +20,11 @@ returns-then-branch c =
     let rule = c.rule-item.result in
     let i = c.loop-rule.rule-index in
     let matches : Tree → Bool = λ t. truth_at t c.args.position (rows c.args.resource.now) in
-    sym (decided_now matches (partial_rule l (partial_paths rule)) (rules_from l whole rules (i + 1)) (sym c.in_ok-is_for.ensures ∙ c.if-branch.true))
-    ∙ ap (decided_for matches) (sym (rules_counted l whole rules rule i c.loop-rule-test.true c.rule-item.is (sym c.counts.ensures ∙ c.if-counts.true)))
+    sym (decided_now matches (partial_rule l (partial_paths rule)) (rules_from partial_paths l whole rules (i + 1)) (sym c.in_ok-is_for.ensures ∙ c.if-branch.true))
+    ∙ ap (decided_for matches) (sym (rules_counted partial_paths l whole rules rule i c.loop-rule-test.true c.rule-item.is (sym c.counts.ensures ∙ c.if-counts.true)))
     ∙ c.loop-rule.invariant
-    ∙ ap (λ (rs : List PartialRule). decided_for matches (rules_from l whole rs 0)) c.deref-rule-items.ensures.value
-    ∙ ap (λ (o : Option Decision). decided_for matches (rules_from l o c.args.self.now.partial.items 0)) c.decided-whole.ensures
+    ∙ ap (λ (rs : List PartialRule). decided_for matches (rules_from partial_paths l whole rs 0)) c.deref-rule-items.ensures.value
+    ∙ ap (λ (o : Option Decision). decided_for matches (rules_from partial_paths l o c.args.self.now.partial.items 0)) c.decided-whole.ensures
 
 pub loop-rule-preserved : goal.loop-rule-preserved
 loop-rule-preserved c =
@@ -36,12 +36,12 @@ loop-rule-preserved c =
     let matches : Tree → Bool = λ t. truth_at t c.args.position (rows c.args.resource.now) in
     elim c.else-counts.branch [
       | else-counts-via-then-counts+in_ok-is_for+else-branch w ↦ (
-          sym (decided_later matches (partial_rule l (partial_paths rule)) (rules_from l whole rules (i + 1)) (sym w.in_ok-is_for.ensures ∙ w.if-branch.false))
-          ∙ ap (decided_for matches) (sym (rules_counted l whole rules rule i c.loop-rule-test.true c.rule-item.is (sym c.counts.ensures ∙ w.if-counts.true)))
+          sym (decided_later matches (partial_rule l (partial_paths rule)) (rules_from partial_paths l whole rules (i + 1)) (sym w.in_ok-is_for.ensures ∙ w.if-branch.false))
+          ∙ ap (decided_for matches) (sym (rules_counted partial_paths l whole rules rule i c.loop-rule-test.true c.rule-item.is (sym c.counts.ensures ∙ w.if-counts.true)))
           ∙ c.loop-rule.invariant
           )
       | else-counts-via-else-counts w ↦ (
-          ap (decided_for matches) (sym (rules_other l whole rules rule i c.loop-rule-test.true c.rule-item.is (sym c.counts.ensures ∙ w.if-counts.false)))
+          ap (decided_for matches) (sym (rules_other partial_paths l whole rules rule i c.loop-rule-test.true c.rule-item.is (sym c.counts.ensures ∙ w.if-counts.false)))
           ∙ c.loop-rule.invariant
           )
     ]
