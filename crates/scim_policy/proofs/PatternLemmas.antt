@@ -1,6 +1,6 @@
 -- What a table of patterns says while rules are added.
 use Rattle.std.proofs.Common.{◌≡◌, refl, sym, subst, ap, ap₂, ◌∙◌, ℕ, ◌+◌, ◌<◌, ◌≤◌, Bool, true, false, List, [], ◌∷◌, ◌++◌, length, get_or, map, drop, All, inl, inr, arith}
-use Rattle.std.specs.Prelude.{not, ◌&&◌, ◌||◌, nat_lt, Option, Some, None, is_some, filter, if◌then◌else◌}
+use Rattle.std.specs.Prelude.{not, ◌&&◌, ◌||◌, ◌==◌, nat_lt, Option, Some, None, is_some, filter, if◌then◌else◌}
 use Rattle.std.specs.List.{list_any, enumerate_from}
 use Rattle.std.proofs.Math.ListN.{drop_of_length-le}
 use Rattle.std.proofs.lemmas.Bool.{cases_Bool, lt-ltb, le-ltb}
@@ -14,11 +14,12 @@ use Rattle.scim_filter_grammar.specs.Tree.{Tree}
 use Rattle.scim_policy.specs.declared.rules.Decision.{Decision}
 use Rattle.scim_policy.specs.declared.patterns.Patterns.{Patterns}
 use Rattle.scim_policy.specs.Rules.{FilteredPath, Rule}
-use Rattle.scim_policy.specs.Decide.{covers, covers_in, covers_in_part, filtered_on, fits, paths_on, speaks_of}
+use Rattle.scim_policy.specs.Decide.{covers, covers_in, covers_in_part, filtered_on, fits, is_about, is_target_met, paths_on, speaks_of}
 use Rattle.scim_policy.specs.Patterns.{PatternRule, decided_for, decision_of, filters_on, first_or_denied, is_for_value, pattern_rules, up_to_whole, whole_decision}
 use Rattle.scim_policy.specs.PatternTable.{partial_paths, is_before, counts, partial_rule, partial_rules, last_rule, rules_in}
 use Rattle.scim_policy.specs.Table.{or_else, decided}
 use Rattle.scim_policy.specs.code.Walk.{by_paths}
+use Rattle.scim_policy.proofs.SharedLemmas.{speaks_grouped}
 use Rattle.scim_policy.proofs.TableLemmas.{rest_all}
 use Rattle.scim_policy.specs.code.PatternWalk.{partial_of, AddsRule, rules_left, fitting_from, HasWalked}
 
@@ -243,6 +244,25 @@ policy_end client c rs i ps end walked =
 
 pub policy_whole : (client : List ℕ) (c : Content) (rs : List Rule) (i : ℕ) (ps : Patterns) → is_some ps.last.rest ≡ true → PolicyWalked client c rs i ps → (l : Leaf) → rules_in ps l ≡ pattern_rules rs client c l
 policy_whole client c rs i ps = walk_whole c (λ l. fitting_from client c l (i + 1) (drop i rs)) (λ l. pattern_rules rs client c l) i ps
+
+-- a table to which the first rules of a policy were added, for each resource of a kind
+abbrev pub AllWalked : List ℕ → Kind → List Rule → ℕ → Patterns → Type 0
+AllWalked client k rs i ps = (c : Content) → c.kind ≡ k → PolicyWalked client c rs i ps
+
+-- a rule without a target is for each resource of the kind that it is about
+pub all_rule : (client : List ℕ) (k : Kind) (rs : List Rule) (i n : ℕ) (r : Rule) (old new : Patterns) → i < length rs → r ≡ get_or rs i r → n ≡ i → is_about client Read k r ≡ true → (length r.targets == 0) ≡ true
+    → AddsRule k r (record { rule = n + 1; allow = r.allow }) old new → AllWalked client k rs i old → AllWalked client k rs (i + 1) new
+all_rule client k rs i n r old new less there numbered ours bare adds walked c same =
+    let is_ours : is_about client Read c.kind r ≡ true = ap (λ (j : Kind). is_about client Read j r) same ∙ ours in
+    let speaks : speaks_of client Read c r ≡ true = speaks_grouped client Read c r ∙ rw (is_ours, bare) refl in
+    policy_rule client c k rs i n r old new less there numbered (sym same) speaks adds (walked c same)
+
+-- a rule that isn't about the kind is for none
+pub all_past : (client : List ℕ) (k : Kind) (rs : List Rule) (i : ℕ) (r : Rule) (ps : Patterns) → i < length rs → r ≡ get_or rs i r → is_about client Read k r ≡ false → AllWalked client k rs i ps → AllWalked client k rs (i + 1) ps
+all_past client k rs i r ps less there other walked c same =
+    let isnt : is_about client Read c.kind r ≡ false = ap (λ (j : Kind). is_about client Read j r) same ∙ other in
+    let silent : speaks_of client Read c r ≡ false = speaks_grouped client Read c r ∙ ap (λ (b : Bool). b && is_target_met c r) isnt in
+    policy_past client c rs i r ps less there silent (walked c same)
 
 -- ---- the decision on a leaf as a whole
 

@@ -1,6 +1,6 @@
 //! Decides on reading the values of a resource: for each leaf, the rules that decide on some values, and the
 //! rule that decides on all others.
-ghost use Rattle.std.specs.Prelude.{◌≡◌, ◌∷◌, ◌++◌, [], true, None, IfOk, OnOk, map};
+ghost use Rattle.std.specs.Prelude.{◌≡◌, ◌∷◌, ◌++◌, [], true, None, IfOk, OnOk, is_some, map};
 ghost use Rattle.std.specs.List.{list_any};
 ghost use Rattle.scim_schema.specs.declared.Leaf.{Leaf};
 ghost use Rattle.scim_cell.specs.Rows.{rows};
@@ -73,7 +73,7 @@ impl Policy {
             number += 1;
             if rule.speaks_of(alloc, client, Op::Read, resource)? {
                 patterns.add_rule(alloc, rule, resource.kind(), number)?;
-                if patterns.last.has_rest() {
+                if patterns.is_complete() {
                     return Ok(patterns);
                 }
             }
@@ -118,7 +118,7 @@ impl Policy {
 
 impl<'p> Patterns<'p> {
     /// Patterns to which no rule was added yet.
-    fn none(alloc: Global) -> Patterns<'p>
+    pub(crate) fn none(alloc: Global) -> Patterns<'p>
         ensures last { (l : Leaf) → decided result.last l ≡ None }
         ensures partial { result.partial.items ≡ [] }
     {
@@ -128,9 +128,16 @@ impl<'p> Patterns<'p> {
         }
     }
 
+    /// Whether a rule covers every leaf at all values. Then no later rule changes a pattern.
+    pub(crate) fn is_complete(&self) -> bool
+        ensures { result ≡ is_some self.now.last.rest }
+    {
+        self.last.has_rest()
+    }
+
     /// Adds what `rule` decides on resources of `kind`. Leaves that an earlier rule covers at all values keep
     /// their patterns.
-    fn add_rule(
+    pub(crate) fn add_rule(
         &mut self,
         alloc: Global,
         rule: &'p Rule,
