@@ -1,8 +1,8 @@
 -- A change of nothing that a client may see, cell by cell.
-use Rattle.std.proofs.Common.{◌≡◌, ◌<◌, ◌⊎◌, refl, sym, ◌∙◌, ap, ap₂, subst, ℕ, zero, suc, Bool, true, false, List, [], ◌∷◌, filter, inl, inr, arith, if◌then◌else◌}
-use Rattle.std.specs.Prelude.{All, AllPairs, None, Some, not, ◌||◌}
+use Rattle.std.proofs.Common.{◌≡◌, ◌<◌, ◌⊎◌, refl, sym, ◌∙◌, ap, ap₂, subst, ℕ, zero, suc, Bool, true, false, List, [], ◌∷◌, map, filter, inl, inr, arith, if◌then◌else◌}
+use Rattle.std.specs.Prelude.{All, AllPairs, Option, None, Some, not, ◌||◌}
 use Rattle.std.proofs.lemmas.Bool.{cases_Bool, and_parts}
-use Rattle.std.proofs.lemmas.List.Elements.{All-head, All-tail, All-nil, All-filter}
+use Rattle.std.proofs.lemmas.List.Elements.{All-head, All-tail, All-nil, All-filter, All-weaker}
 use Rattle.std.proofs.lemmas.List.Kept.{AllPairs-filter}
 use mathlib.Core.Path.{fun_ext}
 use Rattle.scim_schema.specs.declared.Kind.{Kind}
@@ -16,7 +16,7 @@ use Rattle.scim_cell.specs.declared.atoms.Atom.{Atom}
 use Rattle.scim_cell.specs.declared.rows.Field.{Field}
 use Rattle.scim_cell.specs.Content.{Content}
 use Rattle.scim_cell.specs.Place.{sub_attribute_number}
-use Rattle.scim_cell.specs.Rows.{Row, rows, content, values, has_fields, restricted, restricted_row, atom_in, atom_at, cell_at, IsSoundField, IsValue, AreSound}
+use Rattle.scim_cell.specs.Rows.{Row, Test, by_leaf, rows, content, values, has_fields, restricted, restricted_row, atom_in, atom_at, cell_at, IsSoundField, IsValue, AreSound}
 use Rattle.scim_cell.proofs.Facts.{PartsRise}
 use Rattle.scim_value.specs.Resource.{IsResource}
 use Rattle.scim_value.proofs.Facts.{sound_part}
@@ -26,8 +26,6 @@ use Rattle.scim_view.specs.View.{Viewer, read_decision, may_read, may_be_seen, v
 use Rattle.scim_change.proofs.Facts.{values_fit}
 use Rattle.scim_noninterference.specs.Cells.{IsHiddenAt}
 use Rattle.scim_noninterference.specs.Laws.{HiddenCellsAreQuiet}
-use Rattle.scim_noninterference.proofs.RowLemmas.{by_leaf}
-use Rattle.scim_view.proofs.Facts.{passing}
 use Rattle.scim_noninterference.proofs.UnitLemmas.{same_restricted, attributes_same}
 use Rattle.scim_noninterference.proofs.StoreLemmas.{may_see}
 use Rattle.scim_noninterference.proofs.ChangeLemmas.{sees_leaf}
@@ -52,14 +50,20 @@ first_atom l f fs same = rw same refl
 later_atom : (l : Leaf) (f : Field) (fs : List Field) → is_same_leaf f.leaf l ≡ false → atom_in l (f ∷ fs) ≡ atom_in l fs
 later_atom l f fs other = rw other refl
 
--- fields that are kept by their leaves have the same atom of a leaf that is kept
-kept_atom : (keep : Leaf → Bool) (l : Leaf) (fs : List Field) → keep l ≡ true → atom_in l (filter (λ (f : Field). keep f.leaf) fs) ≡ atom_in l fs
-kept_atom keep l [] kept = refl
-kept_atom keep l (f ∷ fs) kept = elim (cases_Bool (is_same_leaf f.leaf l)) [
-  | inl same ↦ (let t : keep f.leaf ≡ true = ap keep (leaf_one f.leaf l same) ∙ kept in rw (t, same) refl)
+-- of fields that are kept by their leaves, the atom of a leaf is that from before if the leaf is kept, and none otherwise
+kept_atom : (keep : Leaf → Bool) (l : Leaf) (fs : List Field) → atom_in l (filter (λ (f : Field). keep f.leaf) fs) ≡ (if keep l then atom_in l fs else None)
+kept_atom keep l [] = elim (cases_Bool (keep l)) [
+  | inl t ↦ rw t refl
+  | inr n ↦ rw n refl
+]
+kept_atom keep l (f ∷ fs) = elim (cases_Bool (is_same_leaf f.leaf l)) [
+  | inl same ↦ elim (cases_Bool (keep l)) [
+    | inl t ↦ (let own : keep f.leaf ≡ true = ap keep (leaf_one f.leaf l same) ∙ t in rw (t, own, same) refl)
+    | inr n ↦ (let own : keep f.leaf ≡ false = ap keep (leaf_one f.leaf l same) ∙ n in rw own (kept_atom keep l fs ∙ rw n refl))
+  ]
   | inr other ↦ elim (cases_Bool (keep f.leaf)) [
-    | inl t ↦ rw (t, other) (kept_atom keep l fs kept)
-    | inr n ↦ rw (n, other) (kept_atom keep l fs kept)
+    | inl t ↦ rw (t, other) (kept_atom keep l fs)
+    | inr n ↦ rw (n, other) (kept_atom keep l fs)
   ]
 ]
 
@@ -146,42 +150,38 @@ module _ (P : Leaf → Type 0) where
 
 -- ---- the values of a unit, by their cells
 
-module _ (kind : Kind) (keep : Leaf → Bool) (u : AttributeUnit) where
-  -- a leaf of the unit that is kept
-  abbrev IsKept : Leaf → Type 0
-  IsKept l = (unit_of l ≡ u) × (keep l ≡ true)
+module _ (kind : Kind) (keep : Test) (u : AttributeUnit) where
+  -- a leaf of the unit
+  abbrev IsOwn : Leaf → Type 0
+  IsOwn l = unit_of l ≡ u
 
   -- the fields of a value that are kept
   abbrev kept : Row → List Field
-  kept r = filter (λ (f : Field). keep f.leaf) r.fields
+  kept r = (restricted_row keep r).fields
 
-  kept_own : (r : Row) → IsValue kind u r → All (λ (f : Field). IsKept f.leaf) (kept r)
+  kept_own : (r : Row) → IsValue kind u r → All (λ (f : Field). IsOwn f.leaf) (kept r)
   kept_own r is =
-      let own = All-filter (λ (f : Field). keep f.leaf) (IsSoundField kind r.unit) r.fields is.2.own in
-      let passes = passing (λ (f : Field). keep f.leaf) r.fields in
-      λ k e l. ((own k e l).0 ∙ is.0, passes k e l)
+      All-weaker (IsSoundField kind r.unit) (λ (f : Field). IsOwn f.leaf) (λ f own. own.0 ∙ is.0) (kept r)
+      (All-filter (λ (f : Field). keep r f.leaf) (IsSoundField kind r.unit) r.fields is.2.own)
 
   kept_order : (r : Row) → IsValue kind u r → AllPairs PartsRise (kept r)
-  kept_order r is = AllPairs-filter PartsRise (λ (f : Field). keep f.leaf) r.fields is.2.in_order
+  kept_order r is = AllPairs-filter PartsRise (λ (f : Field). keep r f.leaf) r.fields is.2.in_order
 
-  -- of two values that have the same atoms of each leaf that is kept, the same fields are kept
-  kept_same : (r s : Row) → IsValue kind u r → IsValue kind u s → ((l : Leaf) → IsKept l → atom_in l r.fields ≡ atom_in l s.fields) → kept r ≡ kept s
-  kept_same r s first second agree =
-      fields_same IsKept (kept r) (kept s) (kept_own r first) (kept_own s second) (kept_order r first) (kept_order s second)
-      (λ l is. kept_atom keep l r.fields is.1 ∙ agree l is ∙ sym (kept_atom keep l s.fields is.1))
+  -- where the same atoms are kept of two values, the same fields are kept
+  kept_same : (r s : Row) → IsValue kind u r → IsValue kind u s → AtomsAgree IsOwn (kept r) (kept s) → kept r ≡ kept s
+  kept_same r s first second agree = fields_same IsOwn (kept r) (kept s) (kept_own r first) (kept_own s second) (kept_order r first) (kept_order s second) agree
 
-  -- of a value that has no atom of them no field is kept
-  none_kept : (r : Row) → IsValue kind u r → ((l : Leaf) → IsKept l → atom_in l r.fields ≡ None) → kept r ≡ []
+  -- where no atom is kept of a value, no field is kept
+  none_kept : (r : Row) → IsValue kind u r → ((l : Leaf) → IsOwn l → atom_in l (kept r) ≡ None) → kept r ≡ []
   none_kept r is none =
-      fields_same IsKept (kept r) [] (kept_own r is) (All-nil (λ (f : Field). IsKept f.leaf)) (kept_order r is) (λ i j d b c. absurd (omega (arith, c)))
-      (λ l at. kept_atom keep l r.fields at.1 ∙ none l at)
+      fields_same IsOwn (kept r) [] (kept_own r is) (All-nil (λ (f : Field). IsOwn f.leaf)) (kept_order r is) (λ i j d b c. absurd (omega (arith, c))) none
 
-  -- what two lists of values have the same cells of
+  -- the same cells are kept of two lists of values
   abbrev CellsAgree : List Row → List Row → Type 0
-  CellsAgree vs ws = (l : Leaf) (k : ℕ) → IsKept l → atom_at l k vs ≡ atom_at l k ws
+  CellsAgree vs ws = (l : Leaf) (k : ℕ) → IsOwn l → atom_at l k (map (restricted_row keep) vs) ≡ atom_at l k (map (restricted_row keep) ws)
 
-  -- where the same cells are kept of two lists of values, the same is kept of both
-  values_same : (vs ws : List Row) → All (IsValue kind u) vs → All (IsValue kind u) ws → CellsAgree vs ws → restricted (by_leaf keep) vs ≡ restricted (by_leaf keep) ws
+  -- so the same is kept of both
+  values_same : (vs ws : List Row) → All (IsValue kind u) vs → All (IsValue kind u) ws → CellsAgree vs ws → restricted keep vs ≡ restricted keep ws
   values_same [] [] first second agree = refl
   values_same [] (w ∷ ws) first second agree =
       rw (none_kept w (All-head (IsValue kind u) w ws second) (λ l is. sym (agree l zero is)))
@@ -195,20 +195,41 @@ module _ (kind : Kind) (keep : Leaf → Bool) (u : AttributeUnit) where
       let rest = values_same vs ws (All-tail (IsValue kind u) v vs first) (All-tail (IsValue kind u) w ws second) (λ l k is. agree l (suc k) is) in
       let fields : kept v ≡ kept w = kept_same v w v_own w_own (λ l is. agree l zero is) in
       let unit : v.unit ≡ w.unit = v_own.0 ∙ sym w_own.0 in
-      let row : restricted_row (by_leaf keep) v ≡ restricted_row (by_leaf keep) w = λ i. record { unit = unit i; fields = fields i } in
+      let row : restricted_row keep v ≡ restricted_row keep w = λ i. record { unit = unit i; fields = fields i } in
       λ i. if has_fields (row i) then row i ∷ rest i else rest i
 
 -- ---- resources, by their cells
 
--- where two resources have the same cells of the leaves that are kept, the same is kept of both
-pub cells_kept : (keep : Leaf → Bool) (a b : Content) → IsResource a → IsResource b → a.kind ≡ b.kind
-    → ((l : Leaf) (k : ℕ) → keep l ≡ true → cell_at l k (rows a) ≡ cell_at l k (rows b)) → restricted (by_leaf keep) (rows a) ≡ restricted (by_leaf keep) (rows b)
+-- the cell that a test keeps at a leaf and a position, None where it keeps none
+abbrev pub kept_cell : Test → Leaf → ℕ → List Row → Option Atom
+kept_cell keep l k rs = atom_at l k (map (restricted_row keep) (values (unit_of l) rs))
+
+-- where the same cells are kept of two resources, the same is kept of both
+pub cells_kept : (keep : Test) (a b : Content) → IsResource a → IsResource b → a.kind ≡ b.kind
+    → ((l : Leaf) (k : ℕ) → kept_cell keep l k (rows a) ≡ kept_cell keep l k (rows b)) → restricted keep (rows a) ≡ restricted keep (rows b)
 cells_kept keep a b one two kinds cells =
     let first = sound_part a one.part in
     let second : AreSound a.kind (rows b) = subst (λ (k : Kind). AreSound k (rows b)) (sym kinds) (sound_part b two.part) in
     same_restricted a.kind keep (rows a) (rows b) first second
     (λ u. values_same a.kind keep u (values u (rows a)) (values u (rows b)) (values_fit a.kind u (rows a) first).own (values_fit a.kind u (rows b) second).own
-    (λ l k is. subst (λ (w : AttributeUnit). atom_at l k (values w (rows a)) ≡ atom_at l k (values w (rows b))) is.0 (cells l k is.1)))
+    (λ l k is. subst (λ (w : AttributeUnit). atom_at l k (map (restricted_row keep) (values w (rows a))) ≡ atom_at l k (map (restricted_row keep) (values w (rows b)))) is (cells l k)))
+
+-- at a leaf that a test decides on whatever the row, it keeps each cell, or none
+atom_by_leaf : (keep : Test) (l : Leaf) (b : Bool) → ((r : Row) → keep r l ≡ b) → (k : ℕ) (rs : List Row)
+    → atom_at l k (map (restricted_row keep) rs) ≡ (if b then atom_at l k rs else None)
+atom_by_leaf keep l true same k [] = refl
+atom_by_leaf keep l false same k [] = refl
+atom_by_leaf keep l b same zero (r ∷ rs) = kept_atom (keep r) l r.fields ∙ ap (λ c. if c then atom_in l r.fields else None) (same r)
+atom_by_leaf keep l b same (suc k) (r ∷ rs) = atom_by_leaf keep l b same k rs
+
+-- so there the same cell is kept of two lists of rows, where it is the same in both or the leaf isn't kept
+cell_by_leaf : (keep : Test) (l : Leaf) (b : Bool) → ((r : Row) → keep r l ≡ b) → (k : ℕ) (rs ss : List Row) → (b ≡ true → cell_at l k rs ≡ cell_at l k ss)
+    → kept_cell keep l k rs ≡ kept_cell keep l k ss
+cell_by_leaf keep l b same k rs ss stays = atom_by_leaf keep l b same k (values (unit_of l) rs) ∙ by b stays ∙ sym (atom_by_leaf keep l b same k (values (unit_of l) ss))
+  where
+    by : (c : Bool) → (c ≡ true → cell_at l k rs ≡ cell_at l k ss) → (if c then cell_at l k rs else None) ≡ (if c then cell_at l k ss else None)
+    by true h = h refl
+    by false h = refl
 
 module _ (v : Viewer) (old new : Content) (one : IsResource old) (two : IsResource new) (kinds : old.kind ≡ new.kind) (ids : old.id ≡ new.id)
     (hidden : (l : Leaf) (k : ℕ) → IsHiddenAt v old new l k) where
@@ -235,7 +256,8 @@ module _ (v : Viewer) (old new : Content) (one : IsResource old) (two : IsResour
   unfolding control
   control_kept =
       sym (attributes_same (λ at. is_named_in v.policy at || is_unique old.kind at) old one)
-      ∙ cells_kept (decides_by old.kind) old new one two kinds control_stays
+      ∙ cells_kept (by_leaf (decides_by old.kind)) old new one two kinds
+      (λ l k. cell_by_leaf (by_leaf (decides_by old.kind)) l (decides_by old.kind l) (λ r. refl) k (rows old) (rows new) (control_stays l k))
       ∙ attributes_same (λ at. is_named_in v.policy at || is_unique old.kind at) new two
       ∙ (λ i. filter (λ (r : Row). is_named_in v.policy r.unit.attribute || is_unique (kinds i) r.unit.attribute) (rows new))
 
@@ -246,7 +268,8 @@ module _ (v : Viewer) (old new : Content) (one : IsResource old) (two : IsResour
       let decisions : read_decision v old ≡ read_decision v new = fun_ext (λ (l : Leaf). decide_same v.policy v.client Read old new l kinds control_kept) in
       let may : may_see v old ≡ may_see v new = λ i. may_be_seen (decisions i) (kinds i) in
       let seen : restricted (may_see v old) (rows old) ≡ restricted (may_see v new) (rows new)
-      = cells_kept (sees_leaf v old) old new one two kinds seen_stays ∙ ap (λ keep. restricted keep (rows new)) may in
+      = cells_kept (may_see v old) old new one two kinds (λ l k. cell_by_leaf (may_see v old) l (sees_leaf v old l) (λ r. refl) k (rows old) (rows new) (seen_stays l k))
+      ∙ ap (λ keep. restricted keep (rows new)) may in
       λ i. content (kinds i) (ids i) (seen i)
 
 -- where each cell stays, or can't be read and nothing rests on its attribute, the viewer sees the same and decisions rest on the same

@@ -2,7 +2,7 @@
 use Rattle.std.proofs.Common.{◌≡◌, refl, sym, ◌∙◌, ap, ap₂, subst, ℕ, Bool, true, false, List, filter, inl, inr, get_or}
 use Rattle.std.specs.Prelude.{All, not, ◌&&◌, ◌||◌, None}
 use Rattle.std.specs.Ordering.{is_eq}
-use Rattle.std.proofs.lemmas.Bool.{cases_Bool, and_parts}
+use Rattle.std.proofs.lemmas.Bool.{cases_Bool, and_parts, and_right}
 use Rattle.std.proofs.lemmas.List.Elements.{All-filter, All-weaker}
 use mathlib.Core.Path.{fun_ext}
 use denote.Enum.Bare.{same_true}
@@ -20,7 +20,8 @@ use Rattle.scim_schema.specs.Characteristics.{characteristics_of}
 use Rattle.scim_cell.specs.declared.rows.Field.{Field}
 use Rattle.scim_cell.specs.Content.{Content}
 use Rattle.scim_cell.specs.Place.{unit_cmp}
-use Rattle.scim_cell.specs.Rows.{Row, rows, values, has_fields, restricted, IsSoundField, IsSoundRow}
+use Rattle.scim_cell.specs.Rows.{Row, by_leaf, rows, values, has_fields, restricted, IsSoundField, IsSoundRow}
+use Rattle.scim_cell.proofs.Facts.{AreAlike}
 use Rattle.scim_value.specs.Resource.{IsResource, MayBeKept}
 use Rattle.scim_value.proofs.Facts.{sound_part, unit_same}
 use Rattle.scim_policy.specs.Rules.{Rule}
@@ -31,7 +32,7 @@ use Rattle.scim_policy.proofs.Facts.{decide_same}
 use Rattle.scim_view.specs.View.{Viewer, may_be_seen, read_decision}
 use Rattle.scim_change.specs.Laws.{AgreeAt, IsLeft}
 use Rattle.scim_noninterference.specs.Names.{ControlRestsOnUnits}
-use Rattle.scim_noninterference.proofs.RowLemmas.{OfEach, Narrows, by_leaf, values_restricted, restricted_kept, restricted_twice}
+use Rattle.scim_noninterference.proofs.RowLemmas.{KeepsAll, values_restricted, restricted_kept, restricted_narrower}
 use Rattle.scim_view.proofs.Facts.{passing, readable_leaf, not_wider}
 use Rattle.scim_noninterference.proofs.UnitLemmas.{attributes_same, kept_same}
 use Rattle.scim_noninterference.proofs.StoreLemmas.{Traits, may_see, traits, access_same, may_see_same}
@@ -62,7 +63,7 @@ pub control_rests : ControlRestsOnUnits
 unfolding control
 control_rests policy us changed moment a b x y one two three four kinds same agree first second =
     sym (attributes_same (decides_by policy x.kind) x three)
-    ∙ kept_same us changed moment a b x y agree first second three four kinds_after (λ l. decides_by policy x.kind l.attribute) before
+    ∙ kept_same us changed moment a b x y agree first second three four kinds_after (by_leaf (λ l. decides_by policy x.kind l.attribute)) before
     ∙ attributes_same (decides_by policy x.kind) y four ∙ (λ i. filter (λ (r : Row). decides_by policy (kinds_after i) r.unit.attribute) (rows y))
   where
     kinds_after : x.kind ≡ y.kind
@@ -78,13 +79,13 @@ module _ (v : Viewer) where
   -- ---- a unit that may be written is seen
 
   module _ (c : Content) (own : IsResource c) (u : AttributeUnit) (free : forbidding c.kind (access_of v c) u ≡ None) where
-    seen_field : (r : Row) → r.unit ≡ u → (f : Field) → IsSoundField c.kind r.unit f → MayBeKept c.kind f → sees_leaf v c f.leaf ≡ true
+    seen_field : (r : Row) → r.unit ≡ u → (f : Field) → IsSoundField c.kind r.unit f → MayBeKept c.kind f → may_see v c r f.leaf ≡ true
     seen_field r at f is kept =
         let open' = kept_open c.kind f kept in
         let reads : (read_decision v c f.leaf).allow ≡ true = readable_leaf c.kind (access_of v c) u free f.leaf (is.0 ∙ at) is.1 open' in
         rw (open', reads) refl
 
-    seen_row : (r : Row) → is_eq (unit_cmp r.unit u) ≡ true → IsSoundRow c.kind r → All (MayBeKept c.kind) r.fields → All (λ f. sees_leaf v c f.leaf ≡ true) r.fields
+    seen_row : (r : Row) → is_eq (unit_cmp r.unit u) ≡ true → IsSoundRow c.kind r → All (MayBeKept c.kind) r.fields → KeepsAll (may_see v c) r
     seen_row r at is kept = λ k e l. seen_field r (unit_same r.unit u at) (get_or r.fields k e) (is.own k e l) (kept k e l)
 
     written_seen : restricted (may_see v c) (values u (rows c)) ≡ values u (rows c)
@@ -93,7 +94,7 @@ module _ (v : Viewer) where
         let at = passing (λ (r : Row). is_eq (unit_cmp r.unit u)) (rows c) in
         let is = All-filter (λ (r : Row). is_eq (unit_cmp r.unit u)) (IsSoundRow c.kind) (rows c) sound.own in
         let kept = All-filter (λ (r : Row). is_eq (unit_cmp r.unit u)) (λ r. All (MayBeKept c.kind) r.fields) (rows c) own.may_be_kept in
-        restricted_kept (sees_leaf v c) (values u (rows c)) (All-filter (λ (r : Row). is_eq (unit_cmp r.unit u)) (λ r. has_fields r ≡ true) (rows c) sound.full)
+        restricted_kept (may_see v c) (values u (rows c)) (All-filter (λ (r : Row). is_eq (unit_cmp r.unit u)) (λ r. has_fields r ≡ true) (rows c) sound.full)
         (λ k e l. seen_row (get_or (values u (rows c)) k e) (at k e l) (is k e l) (kept k e l))
 
   -- so two resources that the viewer can't tell apart have the same values there
@@ -108,8 +109,8 @@ module _ (v : Viewer) where
       by_unit : (u : AttributeUnit) → forbidding a.kind (access_of v a) u ≡ None → values u (rows a) ≡ values u (rows b)
       by_unit u e =
           let f : forbidding b.kind (access_of v b) u ≡ None = ap₂ (λ (k : Kind) (x : Access). forbidding k x u) (sym kinds) (sym (access_same v a b same)) ∙ e in
-          sym (written_seen a one u e) ∙ sym (values_restricted (sees_leaf v a) u (rows a)) ∙ ap (λ (t : Traits). values u t.rows) same
-          ∙ values_restricted (sees_leaf v b) u (rows b) ∙ written_seen b two u f
+          sym (written_seen a one u e) ∙ sym (values_restricted (may_see v a) u (rows a)) ∙ ap (λ (t : Traits). values u t.rows) same
+          ∙ values_restricted (may_see v b) u (rows b) ∙ written_seen b two u f
 
   -- ---- after the change
 
@@ -137,7 +138,7 @@ module _ (v : Viewer) where
     -- what was seen before is the same
     rows_after : restricted (may_see v a) (rows x) ≡ restricted (may_see v a) (rows y)
     rows_after =
-        kept_same us changed moment a b x y agree first second three four kinds_after (sees_leaf v a)
+        kept_same us changed moment a b x y agree first second three four kinds_after (may_see v a)
         (ap (λ (t : Traits). t.rows) same ∙ ap (λ keep. restricted keep (rows b)) (sym (may_see_same v a b same)))
 
     -- where nothing is opened, a leaf of the kind that is seen afterwards was seen before
@@ -147,17 +148,24 @@ module _ (v : Viewer) where
         let reads : (read_decision v a l).allow ≡ true = not_wider x.kind (access_of v a) (access_of v x) nothing l there parts.1 in
         ap₂ ◌&&◌ (ap (λ (k : Kind). not (is_write_only k l)) (sym first.kind) ∙ parts.0) reads
 
+    -- so a field is seen afterwards exactly if it would be seen before, and its leaf is seen afterwards
+    narrow_at : widening x.kind (access_of v a) (access_of v x) ≡ None → (r : Row) (l : Leaf) → HasLeaf x.kind l → may_see v x r l ≡ (may_see v a r l && sees_leaf v x l)
+    narrow_at nothing r l there = elim (cases_Bool (sees_leaf v x l)) [
+      | inl now ↦ rw (now, narrow_leaf nothing l there now) refl
+      | inr hidden ↦ hidden ∙ sym (and_right (may_see v a r l) (sees_leaf v x l) hidden)
+    ]
+
     narrow_rows : widening x.kind (access_of v a) (access_of v x) ≡ None → (k : Kind) → x.kind ≡ k → (rs : List Row) → All (IsSoundRow k) rs
-        → OfEach (Narrows (sees_leaf v a) (sees_leaf v x)) rs
+        → All (AreAlike (may_see v x) (λ r l. may_see v a r l && sees_leaf v x l)) rs
     narrow_rows nothing k kinds rs own =
-        λ i e l j f m. narrow_leaf nothing (get_or (get_or rs i e).fields j f).leaf (subst (λ (kind : Kind). HasLeaf kind (get_or (get_or rs i e).fields j f).leaf) (sym kinds) ((own i e l).own j f m).1)
+        λ i e l j f m. narrow_at nothing (get_or rs i e) (get_or (get_or rs i e).fields j f).leaf (subst (λ (kind : Kind). HasLeaf kind (get_or (get_or rs i e).fields j f).leaf) (sym kinds) ((own i e l).own j f m).1)
 
     pub traits_after : widening x.kind (access_of v a) (access_of v x) ≡ None → traits v x ≡ traits v y
     traits_after nothing =
         let may : may_see v x ≡ may_see v y = λ i. may_be_seen (access_after i).read (kinds_after i) in
         let rows_now : restricted (may_see v x) (rows x) ≡ restricted (may_see v y) (rows y)
-        = sym (restricted_twice (sees_leaf v a) (sees_leaf v x) (rows x) (narrow_rows nothing x.kind refl (rows x) (sound_part x three.part).own))
-        ∙ ap (restricted (may_see v x)) rows_after
-        ∙ restricted_twice (sees_leaf v a) (sees_leaf v x) (rows y) (narrow_rows nothing y.kind kinds_after (rows y) (sound_part y four.part).own)
+        = restricted_narrower (may_see v a) (may_see v x) (sees_leaf v x) (rows x) (narrow_rows nothing x.kind refl (rows x) (sound_part x three.part).own)
+        ∙ ap (restricted (by_leaf (sees_leaf v x))) rows_after
+        ∙ sym (restricted_narrower (may_see v a) (may_see v x) (sees_leaf v x) (rows y) (narrow_rows nothing y.kind kinds_after (rows y) (sound_part y four.part).own))
         ∙ ap (λ keep. restricted keep (rows y)) may in
         λ i. record { kind = kinds_after i; id = ids_after i; rows = rows_now i; control = control_after i }

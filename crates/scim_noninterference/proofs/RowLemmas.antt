@@ -1,5 +1,5 @@
 -- Rows restricted to what may be seen.
-use Rattle.std.proofs.Common.{◌≡◌, refl, sym, ◌∙◌, ap, ap₂, Bool, true, false, List, [], ◌∷◌, ◌++◌, filter, inl, inr, arith}
+use Rattle.std.proofs.Common.{◌≡◌, refl, sym, ◌∙◌, ap, ap₂, Bool, true, false, ◌&&◌, List, [], ◌∷◌, ◌++◌, filter, inl, inr, arith}
 use Rattle.std.specs.Prelude.{All}
 use Rattle.std.specs.Ordering.{is_lt, is_eq, is_gt}
 use Rattle.std.proofs.lemmas.Bool.{cases_Bool}
@@ -10,60 +10,39 @@ use Rattle.scim_schema.specs.declared.Leaf.{Leaf}
 use Rattle.scim_schema.specs.declared.Unit.{Unit as AttributeUnit}
 use Rattle.scim_cell.specs.declared.rows.Field.{Field}
 use Rattle.scim_cell.specs.Place.{unit_cmp}
-use Rattle.scim_cell.specs.Rows.{Row, Test, values, put_values, is_empty, has_fields, restricted, IsSoundField, IsSoundRow}
+use Rattle.scim_cell.specs.Rows.{Row, Test, by_leaf, values, put_values, has_fields, restricted, IsSoundField, IsSoundRow}
+use Rattle.scim_cell.proofs.Facts.{AreAlike, restricted_alike, restricted_further}
 
 pub filter_implied : {X : Type 0} (p q : X → Bool) → ((x : X) → q x ≡ true → p x ≡ true) → (xs : List X) → filter q (filter p xs) ≡ filter q xs
 filter_implied p q implied [] = refl
 filter_implied p q implied (x ∷ xs) = grind (arith, filter_implied p q implied xs, implied x)
 
--- a test of leaves, whatever the row
-abbrev pub by_leaf : (Leaf → Bool) → Test
-by_leaf keep r l = keep l
+-- where a test is an earlier test and a test of leaves, it leaves what the test of leaves leaves of the rows restricted before
+pub restricted_narrower : (before after : Test) (q : Leaf → Bool) (rs : List Row) → All (AreAlike after (λ r l. before r l && q l)) rs
+    → restricted after rs ≡ restricted (by_leaf q) (restricted before rs)
+restricted_narrower before after q rs alike = restricted_alike after (λ r l. before r l && q l) rs alike ∙ sym (restricted_further before q rs)
 
--- something holds of each field
-abbrev pub OfEach : (Field → Type 0) → List Row → Type 0
-OfEach P rs = All (λ (r : Row). All P r.fields) rs
-
--- where one test admits a leaf, so does the other
-abbrev pub Narrows : (Leaf → Bool) → (Leaf → Bool) → Field → Type 0
-Narrows p q f = q f.leaf ≡ true → p f.leaf ≡ true
-
--- the fields kept by the narrower test are those that it keeps of what the wider one keeps
-kept_twice : (p q : Leaf → Bool) (fs : List Field) → All (Narrows p q) fs → filter (λ (f : Field). q f.leaf) (filter (λ (f : Field). p f.leaf) fs) ≡ filter (λ (f : Field). q f.leaf) fs
-kept_twice p q [] narrow = refl
-kept_twice p q (f ∷ fs) narrow = grind (arith, kept_twice p q fs (All-tail (Narrows p q) f fs narrow), All-head (Narrows p q) f fs narrow)
-
-no_fields : (p q : Leaf → Bool) (fs : List Field) → All (Narrows p q) fs → is_empty (filter (λ (f : Field). p f.leaf) fs) ≡ true → is_empty (filter (λ (f : Field). q f.leaf) fs) ≡ true
-no_fields p q [] narrow e = refl
-no_fields p q (f ∷ fs) narrow e = grind (arith, no_fields p q fs (All-tail (Narrows p q) f fs narrow), All-head (Narrows p q) f fs narrow)
-
-pub restricted_twice : (p q : Leaf → Bool) (rs : List Row) → OfEach (Narrows p q) rs → restricted (by_leaf q) (restricted (by_leaf p) rs) ≡ restricted (by_leaf q) rs
-restricted_twice p q [] narrow = refl
-restricted_twice p q (r ∷ rs) narrow =
-    let own = All-head (λ (s : Row). All (Narrows p q) s.fields) r rs narrow in
-    grind (arith, restricted_twice p q rs (All-tail (λ (s : Row). All (Narrows p q) s.fields) r rs narrow), no_fields p q r.fields own, kept_twice p q r.fields own)
-
-module _ (keep : Leaf → Bool) where
-  pub restricted_append : (xs ys : List Row) → restricted (by_leaf keep) (xs ++ ys) ≡ restricted (by_leaf keep) xs ++ restricted (by_leaf keep) ys
+module _ (keep : Test) where
+  pub restricted_append : (xs ys : List Row) → restricted keep (xs ++ ys) ≡ restricted keep xs ++ restricted keep ys
   restricted_append [] ys = refl
   restricted_append (r ∷ xs) ys = grind (arith, restricted_append xs ys)
 
   -- a test of the unit alone
   pub filter_restricted : (test : AttributeUnit → Bool) (rs : List Row)
-      → filter (λ (r : Row). test r.unit) (restricted (by_leaf keep) rs) ≡ restricted (by_leaf keep) (filter (λ (r : Row). test r.unit) rs)
+      → filter (λ (r : Row). test r.unit) (restricted keep rs) ≡ restricted keep (filter (λ (r : Row). test r.unit) rs)
   filter_restricted test [] = refl
   filter_restricted test (r ∷ rs) = grind (arith, filter_restricted test rs)
 
-  pub values_restricted : (u : AttributeUnit) (rs : List Row) → values u (restricted (by_leaf keep) rs) ≡ restricted (by_leaf keep) (values u rs)
+  pub values_restricted : (u : AttributeUnit) (rs : List Row) → values u (restricted keep rs) ≡ restricted keep (values u rs)
   values_restricted u rs = filter_restricted (λ v. is_eq (unit_cmp v u)) rs
 
   pub restricted_put : (u : AttributeUnit) (vs rs : List Row)
-      → restricted (by_leaf keep) (put_values u vs rs) ≡ put_values u (restricted (by_leaf keep) vs) (restricted (by_leaf keep) rs)
+      → restricted keep (put_values u vs rs) ≡ put_values u (restricted keep vs) (restricted keep rs)
   restricted_put u vs rs =
       restricted_append (filter (λ (r : Row). is_lt (unit_cmp r.unit u)) rs) (vs ++ filter (λ (r : Row). is_gt (unit_cmp r.unit u)) rs)
       ∙ ap₂ ◌++◌ (sym (filter_restricted (λ v. is_lt (unit_cmp v u)) rs))
       (restricted_append vs (filter (λ (r : Row). is_gt (unit_cmp r.unit u)) rs)
-      ∙ ap (λ xs. restricted (by_leaf keep) vs ++ xs) (sym (filter_restricted (λ v. is_gt (unit_cmp v u)) rs)))
+      ∙ ap (λ xs. restricted keep vs ++ xs) (sym (filter_restricted (λ v. is_gt (unit_cmp v u)) rs)))
 
 -- of rows whose fields are all kept nothing goes
 kept_fields : (keep : Leaf → Bool) (fs : List Field) → All (λ (f : Field). keep f.leaf ≡ true) fs → filter (λ (f : Field). keep f.leaf) fs ≡ fs
@@ -71,11 +50,15 @@ kept_fields keep [] all = refl
 kept_fields keep (f ∷ fs) all =
     rw (All-head (λ (g : Field). keep g.leaf ≡ true) f fs all) (ap (λ gs. f ∷ gs) (kept_fields keep fs (All-tail (λ (g : Field). keep g.leaf ≡ true) f fs all)))
 
-pub restricted_kept : (keep : Leaf → Bool) (rs : List Row) → All (λ r. has_fields r ≡ true) rs → OfEach (λ f. keep f.leaf ≡ true) rs → restricted (by_leaf keep) rs ≡ rs
+-- the test keeps each field of a row
+abbrev pub KeepsAll : Test → Row → Type 0
+KeepsAll keep r = All (λ (f : Field). keep r f.leaf ≡ true) r.fields
+
+pub restricted_kept : (keep : Test) (rs : List Row) → All (λ r. has_fields r ≡ true) rs → All (KeepsAll keep) rs → restricted keep rs ≡ rs
 restricted_kept keep [] full all = refl
 restricted_kept keep (r ∷ rs) full all =
-    rw (kept_fields keep r.fields (All-head (λ (s : Row). All (λ f. keep f.leaf ≡ true) s.fields) r rs all), All-head (λ s. has_fields s ≡ true) r rs full)
-    (ap (λ xs. r ∷ xs) (restricted_kept keep rs (All-tail (λ s. has_fields s ≡ true) r rs full) (All-tail (λ (s : Row). All (λ f. keep f.leaf ≡ true) s.fields) r rs all)))
+    rw (kept_fields (keep r) r.fields (All-head (KeepsAll keep) r rs all), All-head (λ s. has_fields s ≡ true) r rs full)
+    (ap (λ xs. r ∷ xs) (restricted_kept keep rs (All-tail (λ s. has_fields s ≡ true) r rs full) (All-tail (KeepsAll keep) r rs all)))
 
 -- of rows none of whose fields is kept nothing is left
 lost_fields : (keep : Leaf → Bool) (fs : List Field) → All (λ (f : Field). keep f.leaf ≡ false) fs → filter (λ (f : Field). keep f.leaf) fs ≡ []

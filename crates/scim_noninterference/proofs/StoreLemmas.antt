@@ -1,6 +1,6 @@
 -- What a client's requests rest on, of each resource that it sees.
 use Rattle.std.proofs.Common.{◌≡◌, ◌⊎◌, refl, sym, ◌∙◌, ap, ap₂, ℕ, Bool, true, false, ◌&&◌, List, [], ◌∷◌, ◌++◌, map, filter, inl, inr, arith, if◌then◌else◌}
-use Rattle.std.specs.Prelude.{All, AllPairs, Option, None, Some, find, not, zero, suc}
+use Rattle.std.specs.Prelude.{All, AllPairs, Option, None, Some, find, zero, suc}
 use Rattle.std.specs.Option.{option_map}
 use Rattle.std.specs.Ordering.{nat_cmp, is_lt, is_gt}
 use Rattle.std.specs.Cmp.Lexicographic.{slice_cmp}
@@ -16,7 +16,6 @@ use Rattle.scim_schema.specs.declared.Leaf.{Leaf}
 use Rattle.scim_schema.specs.declared.Attribute.TheVariants.{Id, Groups}
 use Rattle.scim_schema.specs.declared.Op.{Op}
 use Rattle.scim_schema.specs.declared.Op.TheVariants.{Read, Modify, Delete}
-use Rattle.scim_schema.specs.Mutability.{is_write_only}
 use Rattle.scim_schema.specs.Units.{simple, whole}
 use Rattle.scim_cell.specs.Content.{Content}
 use Rattle.scim_cell.specs.Equality.{is_same_id}
@@ -249,9 +248,8 @@ module _ (v : Viewer) where
   with_traits : (gs : List Content) (c : Content) → with_groups v gs c ≡ with_memberships (may_see v c) (seen v gs) c.kind c.id (traits v c).rows
   unfolding with_groups visible_with
   with_traits gs c =
-      let keep = λ (l : Leaf). not (is_write_only c.kind l) && (read_decision v c l).allow in
       elim (cases_Bool (sameb the_kind c.kind User)) [
-        | inl yes' ↦ rw yes' (ap (content c.kind c.id) (restricted_put keep (whole Groups) (memberships v.base (seen v gs) c.id) (rows c)))
+        | inl yes' ↦ rw yes' (ap (content c.kind c.id) (restricted_put (may_see v c) (whole Groups) (memberships v.base (seen v gs) c.id) (rows c)))
         | inr no' ↦ rw no' refl
       ]
 

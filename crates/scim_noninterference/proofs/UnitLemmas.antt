@@ -5,33 +5,32 @@ use Rattle.std.proofs.lemmas.Bool.{cases_Bool}
 use Rattle.std.proofs.lemmas.List.Elements.{All-head, All-tail, All-cons, All-nil}
 use Rattle.scim_schema.specs.declared.Kind.{Kind}
 use Rattle.scim_schema.specs.declared.Attribute.{Attribute}
-use Rattle.scim_schema.specs.declared.Leaf.{Leaf}
 use Rattle.scim_schema.specs.declared.Unit.{Unit as AttributeUnit}
 use Rattle.scim_schema.specs.Units.{is_same_unit}
 use Rattle.scim_schema.proofs.Facts.{is_same_unit-Decides}
 use Rattle.scim_cell.specs.Content.{Content}
-use Rattle.scim_cell.specs.Rows.{Row, rows, content, values, restricted, AreSound}
+use Rattle.scim_cell.specs.Rows.{Row, Test, by_leaf, rows, content, values, restricted, AreSound}
 use Rattle.scim_value.specs.Resource.{IsResource}
 use Rattle.scim_value.proofs.Facts.{part_content, restricted_sound, rows_content, sound_part}
 use Rattle.scim_change.specs.Laws.{AgreeAt, IsLeft}
 use Rattle.scim_change.proofs.Facts.{stamp}
 use Rattle.scim_patch_steps.proofs.Facts.{same_content}
-use Rattle.scim_noninterference.proofs.RowLemmas.{by_leaf, values_restricted, attributes_kept}
+use Rattle.scim_noninterference.proofs.RowLemmas.{values_restricted, attributes_kept}
 
 -- ---- rows that agree unit by unit
 
 -- rows of which the same is kept of each unit
-pub same_restricted : (kind : Kind) (keep : Leaf → Bool) (xs ys : List Row) → AreSound kind xs → AreSound kind ys
-    → ((u : AttributeUnit) → restricted (by_leaf keep) (values u xs) ≡ restricted (by_leaf keep) (values u ys)) → restricted (by_leaf keep) xs ≡ restricted (by_leaf keep) ys
+pub same_restricted : (kind : Kind) (keep : Test) (xs ys : List Row) → AreSound kind xs → AreSound kind ys
+    → ((u : AttributeUnit) → restricted keep (values u xs) ≡ restricted keep (values u ys)) → restricted keep xs ≡ restricted keep ys
 same_restricted kind keep xs ys first second same =
-    let sound_x = restricted_sound kind (by_leaf keep) xs first in
-    let sound_y = restricted_sound kind (by_leaf keep) ys second in
-    let rows_x = rows_content kind [] (restricted (by_leaf keep) xs) sound_x in
-    let rows_y = rows_content kind [] (restricted (by_leaf keep) ys) sound_y in
-    let by_unit : (u : AttributeUnit) → values u (rows (content kind [] (restricted (by_leaf keep) xs))) ≡ values u (rows (content kind [] (restricted (by_leaf keep) ys)))
+    let sound_x = restricted_sound kind keep xs first in
+    let sound_y = restricted_sound kind keep ys second in
+    let rows_x = rows_content kind [] (restricted keep xs) sound_x in
+    let rows_y = rows_content kind [] (restricted keep ys) sound_y in
+    let by_unit : (u : AttributeUnit) → values u (rows (content kind [] (restricted keep xs))) ≡ values u (rows (content kind [] (restricted keep ys)))
     = λ u. ap (values u) rows_x ∙ values_restricted keep u xs ∙ same u ∙ sym (values_restricted keep u ys) ∙ sym (ap (values u) rows_y) in
     sym rows_x
-    ∙ ap rows (same_content (content kind [] (restricted (by_leaf keep) xs)) (content kind [] (restricted (by_leaf keep) ys)) (part_content kind [] _ sound_x) (part_content kind [] _ sound_y) refl refl by_unit)
+    ∙ ap rows (same_content (content kind [] (restricted keep xs)) (content kind [] (restricted keep ys)) (part_content kind [] _ sound_x) (part_content kind [] _ sound_y) refl refl by_unit)
     ∙ rows_y
 
 -- ---- what a change leaves
@@ -68,17 +67,17 @@ module _ (us : List AttributeUnit) (changed : Bool) (moment : ℕ) (a b x y : Co
   ]
 
   -- so what a test keeps of both is the same afterwards, where it was the same before
-  pub kept_same : (one : IsResource x) (two : IsResource y) → x.kind ≡ y.kind → (keep : Leaf → Bool)
-      → restricted (by_leaf keep) (rows a) ≡ restricted (by_leaf keep) (rows b) → restricted (by_leaf keep) (rows x) ≡ restricted (by_leaf keep) (rows y)
+  pub kept_same : (one : IsResource x) (two : IsResource y) → x.kind ≡ y.kind → (keep : Test)
+      → restricted keep (rows a) ≡ restricted keep (rows b) → restricted keep (rows x) ≡ restricted keep (rows y)
   kept_same one two kinds keep before =
       same_restricted x.kind keep (rows x) (rows y) (sound_part x one.part) (subst (λ k. AreSound k (rows y)) (sym kinds) (sound_part y two.part)) (λ u. by_unit u (told u))
     where
-      by_unit : (u : AttributeUnit) → IsTold u → restricted (by_leaf keep) (values u (rows x)) ≡ restricted (by_leaf keep) (values u (rows y))
-      by_unit u (inl same) = ap (restricted (by_leaf keep)) same
+      by_unit : (u : AttributeUnit) → IsTold u → restricted keep (values u (rows x)) ≡ restricted keep (values u (rows y))
+      by_unit u (inl same) = ap (restricted keep) same
       by_unit u (inr own) =
-          ap (restricted (by_leaf keep)) own.0
+          ap (restricted keep) own.0
           ∙ sym (values_restricted keep u (rows a)) ∙ ap (values u) before ∙ values_restricted keep u (rows b)
-          ∙ sym (ap (restricted (by_leaf keep)) own.1)
+          ∙ sym (ap (restricted keep) own.1)
 
 -- rows by attribute: the same, said of resources
 pub attributes_same : (test : Attribute → Bool) (a : Content) → IsResource a → restricted (by_leaf (λ l. test l.attribute)) (rows a) ≡ filter (λ (r : Row). test r.unit.attribute) (rows a)

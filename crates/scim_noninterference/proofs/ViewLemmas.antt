@@ -18,7 +18,7 @@ use Rattle.scim_cell.specs.declared.rows.Field.{Field}
 use Rattle.scim_cell.specs.Content.{Content, IsPart}
 use Rattle.scim_cell.specs.Kinds.{of_kind}
 use Rattle.scim_cell.specs.Place.{unit_cmp}
-use Rattle.scim_cell.specs.Rows.{Row, rows, values, restricted, AreSound, AreValues, IsValue}
+use Rattle.scim_cell.specs.Rows.{Row, by_leaf, rows, values, restricted, AreSound, AreValues, IsValue}
 use Rattle.scim_value.specs.Resource.{IsResource, MayBeKept}
 use Rattle.scim_value.proofs.Facts.{part_content, put_sound, restricted_sound, rows_content, sound_part, unit_same}
 use Rattle.scim_change.proofs.Facts.{values_stay}
@@ -28,9 +28,8 @@ use Rattle.scim_view.specs.View.{Viewer, read_decision, sees, visible, visible_b
 use Rattle.scim_view.specs.Groups.{seen, memberships, rows_with, visible_with, with_groups}
 use Rattle.scim_view.proofs.Facts.{attributes_alike}
 use Rattle.scim_noninterference.specs.Alike.{whole_view}
-use Rattle.scim_noninterference.proofs.RowLemmas.{by_leaf, filter_implied, restricted_kept, attributes_kept, values_restricted}
+use Rattle.scim_noninterference.proofs.RowLemmas.{filter_implied, restricted_kept, attributes_kept, values_restricted}
 use Rattle.scim_noninterference.proofs.StoreLemmas.{may_see, rows_visible, seen_map, views_map}
-use Rattle.scim_noninterference.proofs.ChangeLemmas.{sees_leaf}
 
 -- of those that pass one test none passes a test that only others pass
 filter_apart : {X : Type 0} (p q : X → Bool) → ((x : X) → q x ≡ true → p x ≡ false) → (xs : List X) → filter q (filter p xs) ≡ []
@@ -53,7 +52,7 @@ no_groups c is u own =
     let open' : All (λ (r : Row). All (λ (f : Field). is_other f.leaf.attribute ≡ true) r.fields) (rows c)
     = All-weaker (λ (r : Row). All (MayBeKept c.kind) r.fields) (λ (r : Row). All (λ (f : Field). is_other f.leaf.attribute ≡ true) r.fields)
     (λ r all. All-weaker (MayBeKept c.kind) (λ (f : Field). is_other f.leaf.attribute ≡ true) (other_field c.kind) r.fields all) (rows c) is.may_be_kept in
-    let kept : restricted (by_leaf (λ l. is_other l.attribute)) (rows c) ≡ rows c = restricted_kept (λ l. is_other l.attribute) (rows c) sound.full open' in
+    let kept : restricted (by_leaf (λ l. is_other l.attribute)) (rows c) ≡ rows c = restricted_kept (by_leaf (λ l. is_other l.attribute)) (rows c) sound.full open' in
     let others = attributes_kept c.kind is_other (rows c) sound.full sound.own in
     ap (values u) (sym kept ∙ others)
     ∙ filter_apart (λ (r : Row). is_other r.unit.attribute) (λ (r : Row). is_eq (unit_cmp r.unit u))
@@ -84,7 +83,7 @@ module _ (v : Viewer) where
 
   none_visible : (c : Content) → IsResource c → (u : AttributeUnit) → sameb the_attribute Groups u.attribute ≡ true → values u (rows (visible v c)) ≡ []
   none_visible c is u own =
-      ap (values u) (rows_visible v c is) ∙ values_restricted (sees_leaf v c) u (rows c) ∙ ap (restricted (may_see v c)) (no_groups c is u own)
+      ap (values u) (rows_visible v c is) ∙ values_restricted (may_see v c) u (rows c) ∙ ap (restricted (may_see v c)) (no_groups c is u own)
 
   -- ---- any other unit
 
@@ -122,8 +121,8 @@ module _ (v : Viewer) where
     unfolding visible_with
     bare_visible =
         ap (values u) (rows_content c.kind c.id (restricted (may_see v c) (rows_with [] c)) (restricted_sound c.kind (may_see v c) (rows_with [] c) bare_sound))
-        ∙ values_restricted (sees_leaf v c) u (rows_with [] c) ∙ ap (restricted (may_see v c)) bare_values
-        ∙ sym (values_restricted (sees_leaf v c) u (rows c)) ∙ sym (ap (values u) (rows_visible v c is))
+        ∙ values_restricted (may_see v c) u (rows_with [] c) ∙ ap (restricted (may_see v c)) bare_values
+        ∙ sym (values_restricted (may_see v c) u (rows c)) ∙ sym (ap (values u) (rows_visible v c is))
 
     -- it has the values that it has without groups
     beside : (gs : List Content) → values u (rows (with_groups v gs c)) ≡ values u (rows (visible v c))
