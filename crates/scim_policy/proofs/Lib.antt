@@ -3,6 +3,7 @@ pub mod ControlLemmas
 pub mod PatternLawLemmas
 pub mod PatternLemmas
 pub mod PickedLemmas
+pub mod ReadingRuleLemmas
 pub mod RuleLemmas
 pub mod SharedLemmas
 pub mod TableLemmas

@@ -83,7 +83,7 @@ pub partial_first : (c : Content) (l : Leaf) (n : ℕ × Rule) (ns : List (ℕ �
 partial_first c l n ns other = rw other refl
 
 -- the rules that are left, with one before them if it covers the leaf at all values or at some
-abbrev with_one : Content → Leaf → (ℕ × Rule) → List (ℕ × Rule) → List (ℕ × Rule)
+abbrev pub with_one : Content → Leaf → (ℕ × Rule) → List (ℕ × Rule) → List (ℕ × Rule)
 with_one c l n ns = if covers_in c l n.1 || list_any (covers_in_part l) (filtered_on c.kind n.1.paths) then n ∷ ns else ns
 
 one_more : (c : Content) (l : Leaf) (n : ℕ × Rule) (o : Option Decision) (ps : List (Decision × List FilteredPath)) (ns : List (ℕ × Rule)) (i : ℕ)

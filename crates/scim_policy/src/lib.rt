@@ -16,6 +16,7 @@ mod decisions;
 mod laws;
 mod misfits;
 mod patterns;
+mod reading_rules;
 mod rule_fit;
 mod rules;
 mod rules_about;
@@ -29,5 +30,6 @@ pub use laws::{
 };
 pub use misfits::Misfit;
 pub use patterns::Patterns;
+pub use reading_rules::ReadingRules;
 pub use rules::{ClientName, Decision, FilteredPath, KindPaths, Policy, PolicyPath, Rule, Target};
 pub use rules_about::RulesAbout;
