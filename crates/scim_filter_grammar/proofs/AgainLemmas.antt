@@ -16,8 +16,8 @@ use Rattle.scim_filter_grammar.specs.declared.tree.Meant.{Meant}
 use Rattle.scim_filter_grammar.specs.declared.tree.Scope.{Scope}
 use Rattle.scim_filter_grammar.specs.declared.tree.Scope.TheVariants.{Attributes, SubAttributes}
 use Rattle.scim_filter_grammar.specs.Literals.{IsWord, IsLiteral}
-use Rattle.scim_filter_grammar.specs.Names.{IsPath, IsPassed, is_name_byte, is_name, is_urn_byte, is_urn, fits_scope, attribute_meant, names_text, path_text}
-use Rattle.scim_filter_grammar.specs.Tree.{Tree, Or, And, Not, Present, Compare, Values}
+use Rattle.scim_filter_grammar.specs.Names.{IsPath, IsPassed, is_name_byte, is_name, is_urn_byte, is_urn, fits_scope, names_text, path_text}
+use Rattle.scim_filter_grammar.specs.Tree.{Tree, Or, And, Not, Present, Compare, Values, attribute_meant}
 use Rattle.scim_filter_grammar.specs.Bytes.{is_space, is_word_byte, front, behind, is_word, is_no_colon}
 use Rattle.scim_filter_grammar.specs.code.Cuts.{is_no_dot, past_join, names_in, urn_in}
 use Rattle.scim_filter_grammar.specs.Grammar.{IsBlank, IsGap, spelled, Encloses, Level, Disjunction, Conjunction, Term, IsFilter, Spells, one_conjunction, either, one_term, both, group, negation, presence, comparison, values}

@@ -7,8 +7,7 @@ use Rattle.scim_filter_grammar.specs.declared.tree.Scope.TheVariants.{Attributes
 use Rattle.scim_filter_grammar.specs.Brackets.{open_behind, IsDeeper}
 use Rattle.scim_filter_grammar.specs.Bytes.{is_space, is_word_byte, front, behind, is_word}
 use Rattle.scim_filter_grammar.specs.code.Cuts.{past_gap, past_join}
-use Rattle.scim_filter_grammar.specs.Names.{attribute_meant}
-use Rattle.scim_filter_grammar.specs.Tree.{Tree, Or, And, Not, Values}
+use Rattle.scim_filter_grammar.specs.Tree.{Tree, Or, And, Not, Values, attribute_meant}
 use Rattle.scim_filter_grammar.specs.Grammar.{Conjunction, Term, Spells}
 use Rattle.scim_filter_grammar.specs.Reading.{Fault, Syntax, TooDeep, ◌>>=◌, Read, Reader, urn_of, name_of, sub_of, path_of, operator_of, number_of, word_literal, string_of, string_at, literal_at, listed_at, closing_at, enclosed_at, relation_at, mapped, behind_path_at, worded_at, term_at, joined_at, chain_at, conjunction_at, disjunction_at, filter_at, ended, all_of}
 use Rattle.scim_filter_grammar.proofs.FrontLemmas.{chosen, front-behind, join_takes, first_is, both_true}

@@ -13,8 +13,8 @@ use Rattle.scim_filter_grammar.specs.declared.tree.AttributePath.{AttributePath}
 use Rattle.scim_filter_grammar.specs.declared.tree.Scope.{Scope}
 use Rattle.scim_filter_grammar.specs.declared.tree.Scope.TheVariants.{Attributes, SubAttributes}
 use Rattle.scim_filter_grammar.specs.Literals.{IsWord, is_integer, IsLiteral}
-use Rattle.scim_filter_grammar.specs.Names.{IsPath, IsPassed, is_name, is_urn, fits_scope, meant_by, attribute_meant, names_text, path_text}
-use Rattle.scim_filter_grammar.specs.Tree.{Tree, Or, And, Not, Present, Compare, Values}
+use Rattle.scim_filter_grammar.specs.Names.{IsPath, IsPassed, is_name, is_urn, fits_scope, meant_by, names_text, path_text}
+use Rattle.scim_filter_grammar.specs.Tree.{Tree, Or, And, Not, Present, Compare, Values, attribute_meant}
 use Rattle.scim_filter_grammar.specs.Bytes.{is_space, is_word_byte, front, behind, is_word, past_quote}
 use Rattle.scim_filter_grammar.specs.code.Cuts.{is_no_dot, past_gap, past_join, names_in, urn_in}
 use Rattle.scim_filter_grammar.specs.Grammar.{IsGap, IsJoin, spelled, Encloses, Disjunction, Conjunction, Term, Spells, one_conjunction, either, one_term, both, group, negation, presence, comparison, values}

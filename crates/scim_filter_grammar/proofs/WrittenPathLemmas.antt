@@ -8,9 +8,9 @@ use Rattle.scim_filter_grammar.specs.declared.tree.Meant.{Meant}
 use Rattle.scim_filter_grammar.specs.declared.tree.AttributePath.{AttributePath}
 use Rattle.scim_filter_grammar.specs.declared.tree.Scope.TheVariants.{Attributes, SubAttributes}
 use Rattle.scim_filter_grammar.specs.Bytes.{is_empty, lone_word, is_space, is_word_byte, front, behind}
-use Rattle.scim_filter_grammar.specs.Names.{IsPath, IsPassed, is_name, names_text, attribute_meant}
+use Rattle.scim_filter_grammar.specs.Names.{IsPath, IsPassed, is_name, names_text}
 use Rattle.scim_filter_grammar.specs.Grammar.{IsBlank}
-use Rattle.scim_filter_grammar.specs.Tree.{Tree, Values}
+use Rattle.scim_filter_grammar.specs.Tree.{Tree, Values, attribute_meant}
 use Rattle.scim_filter_grammar.specs.Reading.{Fault, ◌>>=◌, name_of, path_of, listed_at, enclosed_at, filter_at}
 use Rattle.scim_filter_grammar.specs.Spelled.{OnePathIsSpelled}
 use Rattle.scim_filter_grammar.specs.WrittenPaths.{Written, Plain, Filtered, SpellsPath, plain, filtered, IsWritten}

@@ -7,9 +7,9 @@ use Rattle.scim_filter_grammar.specs.declared.tree.Literal.{Literal}
 use Rattle.scim_filter_grammar.specs.declared.tree.AttributePath.{AttributePath}
 use Rattle.scim_filter_grammar.specs.declared.tree.Scope.{Scope}
 use Rattle.scim_filter_grammar.specs.declared.tree.Scope.TheVariants.{Attributes, SubAttributes}
-use Rattle.scim_filter_grammar.specs.Names.{IsPath, attribute_meant}
+use Rattle.scim_filter_grammar.specs.Names.{IsPath}
 use Rattle.scim_filter_grammar.specs.Literals.{IsWord, IsLiteral}
-use Rattle.scim_filter_grammar.specs.Tree.{Tree, Or, And, Not, Present, Compare, Values}
+use Rattle.scim_filter_grammar.specs.Tree.{Tree, Or, And, Not, Present, Compare, Values, attribute_meant}
 
 -- the bytes are all spaces
 abbrev pub IsBlank : List ℕ → Type 0

@@ -83,12 +83,6 @@ abbrev pub meant_by : Scope → Option (List ℕ) → List ℕ → Option (List 
 meant_by (Attributes kind) urn name sub = meant_in (attribute_by kind urn name) sub
 meant_by (SubAttributes a) urn name sub = meant_in a (Some name)
 
--- the attribute whose sub-attributes may be named in brackets after a path; None if there is none
-abbrev pub attribute_meant : Meant → Option Attribute
-attribute_meant meant.Nothing = None
-attribute_meant (meant.Attribute a) = Some a
-attribute_meant (meant.SubAttribute a b) = None
-
 -- the text spells the path: [ urn ":" ] name [ "." name ]
 pub record IsPath (scope : Scope) (text : List ℕ) (path : AttributePath) : Type 0 where
   pub urn_is : IsPassed is_urn path.urn

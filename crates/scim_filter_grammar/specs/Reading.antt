@@ -18,8 +18,8 @@ use Rattle.scim_filter_grammar.specs.declared.tree.Scope.{Scope}
 use Rattle.scim_filter_grammar.specs.declared.tree.Scope.TheVariants.{Attributes, SubAttributes}
 use Rattle.scim_filter_grammar.specs.Bytes.{is_space, is_word_byte, front, behind, is_word, past_quote}
 use Rattle.scim_filter_grammar.specs.code.Cuts.{is_no_dot, past_gap, past_join, names_in, urn_in}
-use Rattle.scim_filter_grammar.specs.Names.{is_name, is_urn, fits_scope, meant_by, attribute_meant}
-use Rattle.scim_filter_grammar.specs.Tree.{Tree, Or, And, Not, Present, Compare, Values}
+use Rattle.scim_filter_grammar.specs.Names.{is_name, is_urn, fits_scope, meant_by}
+use Rattle.scim_filter_grammar.specs.Tree.{Tree, Or, And, Not, Present, Compare, Values, attribute_meant}
 
 -- why a text can't be read: it isn't a filter, or it nests too deep
 pub data Fault : Type 0 where

@@ -1,7 +1,11 @@
 -- The tree of a filter, without pointers.
+use Rattle.std.specs.Prelude.{Option, None, Some}
+use Rattle.scim_schema.specs.declared.Attribute.{Attribute}
 use Rattle.scim_filter_grammar.specs.declared.tree.Operator.{Operator}
 use Rattle.scim_filter_grammar.specs.declared.tree.Literal.{Literal}
 use Rattle.scim_filter_grammar.specs.declared.tree.AttributePath.{AttributePath}
+use Rattle.scim_filter_grammar.specs.declared.tree.Meant.{Meant}
+use Rattle.scim_filter_grammar.specs.declared.tree.Meant.TheVariants as meant
 use Rattle.scim_filter_grammar.specs.declared.tree.Node.{Node}
 use Rattle.scim_filter_grammar.specs.declared.tree.Filter.{Filter}
 use Rattle.scim_filter_grammar.specs.declared.tree.Node.TheVariants as node
@@ -14,6 +18,12 @@ pub data Tree : Type 0 where
   Present : AttributePath → Tree
   Compare : AttributePath → Operator → Literal → Tree
   Values : AttributePath → Tree → Tree
+
+-- the attribute whose sub-attributes may be named in brackets after a path; None if there is none
+abbrev pub attribute_meant : Meant → Option Attribute
+attribute_meant meant.Nothing = None
+attribute_meant (meant.Attribute a) = Some a
+attribute_meant (meant.SubAttribute a b) = None
 
 -- the tree that a node represents
 abbrev pub view : Node → Tree

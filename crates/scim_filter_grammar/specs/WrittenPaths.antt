@@ -5,9 +5,9 @@ use Rattle.scim_filter_grammar.specs.declared.tree.AttributePath.{AttributePath}
 use Rattle.scim_filter_grammar.specs.declared.tree.Scope.TheVariants.{Attributes, SubAttributes}
 use Rattle.scim_filter_grammar.specs.declared.written_paths.WrittenPath.{WrittenPath}
 use Rattle.scim_filter_grammar.specs.declared.written_paths.WrittenPath.TheVariants as written
-use Rattle.scim_filter_grammar.specs.Names.{IsPath, IsPassed, is_name, names_text, attribute_meant}
+use Rattle.scim_filter_grammar.specs.Names.{IsPath, IsPassed, is_name, names_text}
 use Rattle.scim_filter_grammar.specs.Grammar.{IsBlank, Encloses, Spells, Disjunction}
-use Rattle.scim_filter_grammar.specs.Tree.{Tree, Values, tree_of}
+use Rattle.scim_filter_grammar.specs.Tree.{Tree, Values, tree_of, attribute_meant}
 
 -- the path of an attribute or sub-attribute, or a value path with an optional sub-attribute after it
 pub data Written : Type 0 where

@@ -1,7 +1,6 @@
 //! The tree of a filter.
 ghost use Rattle.std.specs.Prelude.{◌≡◌};
-ghost use Rattle.scim_filter_grammar.specs.Tree.{tree_of, view};
-ghost use Rattle.scim_filter_grammar.specs.Names.{attribute_meant};
+ghost use Rattle.scim_filter_grammar.specs.Tree.{tree_of, view, attribute_meant};
 
 use crate::string_literals::StringLiteral;
 use scim_cell::Text;

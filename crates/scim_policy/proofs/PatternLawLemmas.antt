@@ -18,8 +18,7 @@ use Rattle.scim_cell.specs.Content.{Content}
 use Rattle.scim_cell.specs.Rows.{Row, rows, attribute_rows}
 use Rattle.scim_filter_grammar.specs.declared.tree.Meant.{Meant}
 use Rattle.scim_filter_grammar.specs.declared.tree.Meant.TheVariants as meant
-use Rattle.scim_filter_grammar.specs.Names.{attribute_meant}
-use Rattle.scim_filter_grammar.specs.Tree.{Tree, Values}
+use Rattle.scim_filter_grammar.specs.Tree.{Tree, Values, attribute_meant}
 use Rattle.scim_filter.specs.Truth.{rows_at, truth, truth_at, truth_in_value}
 use Rattle.scim_policy.specs.declared.rules.Decision.{Decision}
 use Rattle.scim_policy.specs.Rules.{FilteredPath, KindPaths, Rule}

@@ -19,8 +19,7 @@ use Rattle.scim_schema.specs.Characteristics.{is_multi_valued}
 use Rattle.scim_schema.specs.Units.{leaf_at, is_same_attribute, is_same_leaf}
 use Rattle.scim_cell.specs.Content.{Content}
 use Rattle.scim_cell.specs.Rows.{rows}
-use Rattle.scim_filter_grammar.specs.Names.{attribute_meant}
-use Rattle.scim_filter_grammar.specs.Tree.{Tree, Values}
+use Rattle.scim_filter_grammar.specs.Tree.{Tree, Values, attribute_meant}
 use Rattle.scim_filter.specs.Truth.{truth}
 use Rattle.scim_policy.specs.declared.rules.ClientName.{ClientName}
 use Rattle.scim_policy.specs.declared.rules.ClientName.TheVariants.{Everyone, Named}
