@@ -18,7 +18,7 @@ use crate::pathless_steps::push_pathless;
 use json::Scratch;
 use scim_body::{Member, NotJson, Tree, given_named, is_twice, value_named};
 use scim_patch_steps::Patch;
-use scim_path::{Path, read_target};
+use scim_path::{Path, read_path};
 use scim_schema::{Kind, MOST_OPERATIONS};
 use scim_text::{Failed, NoMemory};
 use std::alloc::Global;
@@ -63,7 +63,7 @@ fn push_text(
         (spec.text_steps kind operation (option_map (λ v. view v.now) value.entry)
         (Some text.now))) }
 {
-    match read_target(alloc, kind, text) {
+    match read_path(alloc, kind, text) {
         Ok(path) => push_valued(alloc, kind, operation, path, value, reading),
         Err(Failed::Because(_)) => {
             reading.refuse(PatchFault::Path);

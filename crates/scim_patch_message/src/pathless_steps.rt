@@ -12,7 +12,7 @@ use crate::operations::Operation;
 use crate::path_targets::{is_fixed_path, present, push_target};
 use scim_body::{Member, Tree};
 use scim_filter_grammar::{Meant, attribute_path};
-use scim_path::read_target;
+use scim_path::read_path;
 use scim_schema::Kind;
 use scim_text::{Failed, NoMemory};
 use std::alloc::Global;
@@ -41,7 +41,7 @@ fn push_member(
     ensures { OnOk result (read_of reading.new ≡ both (read_of reading.old)
         (spec.member_steps kind operation key.now (view value.now))) }
 {
-    match read_target(alloc, kind, key) {
+    match read_path(alloc, kind, key) {
         Ok(path) => {
             if is_fixed_path(kind, &path) {
                 return Ok(());

@@ -10,5 +10,5 @@ mod paths;
 
 pub use faults::PathFault;
 pub use laws::{targets_are_named, texts_name_one_thing};
-pub use path_reading::{extension_named, read_path, read_target};
+pub use path_reading::{extension_named, read_path};
 pub use paths::{Path, ValuePath};

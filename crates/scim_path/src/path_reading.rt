@@ -146,17 +146,8 @@ fn written(path: WrittenPath) -> Result<Path, PathFault>
     }
 }
 
-/// Reads a path of a PATCH operation (RFC 7644 section 3.5.2): `attribute`, `attribute.subAttribute`,
-/// `attribute[filter]` or `attribute[filter].subAttribute`, each with or without a URN and a colon before it,
-/// or the URN of an extension alone.
-///
-/// Spaces around the text are allowed, and names match in any ASCII case.
-///
-/// Fails with `Syntax` if the text isn't a path, has more than 4,096 bytes or more than 32 open brackets, has
-/// a filter after anything but a multi-valued attribute, or has a comparison that doesn't suit the type of
-/// its attribute. Fails with `Unknown` if the kind doesn't have an attribute or sub-attribute that the path
-/// names.
-pub fn read_path(alloc: Global, kind: Kind, text: &str) -> Result<Path, Failed<PathFault>>
+/// Reads a path, without saying yet which function of the text it is.
+fn path_named(alloc: Global, kind: Kind, text: &str) -> Result<Path, Failed<PathFault>>
     ensures { UnlessMemory (λ r. spec.Names kind text.now (target_read r)) result }
 {
     if let Some(schema) = extension_named(kind, text) {
@@ -171,15 +162,20 @@ pub fn read_path(alloc: Global, kind: Kind, text: &str) -> Result<Path, Failed<P
     }
 }
 
-/// Reads a text as the path of a change to resources of the kind, and returns its target.
+/// Reads a path of a PATCH operation (RFC 7644 section 3.5.2): `attribute`, `attribute.subAttribute`,
+/// `attribute[filter]` or `attribute[filter].subAttribute`, each with or without a URN and a colon before it,
+/// or the URN of an extension alone.
 ///
-/// The same as [`read_path`], with a contract that names the result as a function of the text.
+/// Spaces around the text are allowed, and names match in any ASCII case.
 ///
-/// Fails with the fault of [`read_path`] if the text isn't a valid path or names an attribute that the kind
-/// lacks.
-pub fn read_target(alloc: Global, kind: Kind, text: &str) -> Result<Path, Failed<PathFault>>
-    ensures { UnlessMemory (λ r. target_in kind text.now ≡ target_read r) result }
+/// Fails with `Syntax` if the text isn't a path, has more than 4,096 bytes or more than 32 open brackets, has
+/// a filter after anything but a multi-valued attribute, or has a comparison that doesn't suit the type of
+/// its attribute. Fails with `Unknown` if the kind doesn't have an attribute or sub-attribute that the path
+/// names.
+pub fn read_path(alloc: Global, kind: Kind, text: &str) -> Result<Path, Failed<PathFault>>
+    ensures named { UnlessMemory (λ r. spec.Names kind text.now (target_read r)) result }
+    ensures target { UnlessMemory (λ r. target_in kind text.now ≡ target_read r) result }
 {
     texts_name_one_thing();
-    read_path(alloc, kind, text)
+    path_named(alloc, kind, text)
 }
