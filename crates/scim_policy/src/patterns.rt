@@ -1,11 +1,12 @@
 //! Decides on reading the values of a resource: for each leaf, the rules that decide on some values, and the
 //! rule that decides on all others.
-ghost use Rattle.std.specs.Prelude.{◌≡◌, ◌∷◌, ◌++◌, [], true, None, IfOk, OnOk, is_some, map};
+ghost use Rattle.std.specs.Prelude.{◌≡◌, ◌∷◌, ◌++◌, [], true, None, IfNone, IfOk, IfSome, OnOk, is_some, map};
 ghost use Rattle.std.specs.List.{list_any};
 ghost use Rattle.scim_schema.specs.declared.Leaf.{Leaf};
 ghost use Rattle.scim_cell.specs.Rows.{rows};
 ghost use Rattle.scim_filter.specs.Truth.{truth_at, truth_in_value};
-ghost use Rattle.scim_policy.specs.Decide.{covers_in_part};
+ghost use Rattle.scim_cell.specs.Content.{Content};
+ghost use Rattle.scim_policy.specs.Decide.{covers_in_part, has_target_for};
 ghost use Rattle.scim_policy.specs.Patterns as spec;
 ghost use Rattle.scim_policy.specs.PatternTable as table;
 ghost use Rattle.scim_policy.specs.PatternTable.{rules_in};
@@ -79,6 +80,39 @@ impl Policy {
             }
         }
         Ok(patterns)
+    }
+
+    /// Computes the patterns of the client's reading on all resources of the kind, if they don't depend on the
+    /// resource. Value filters don't make them depend on it: they are part of a pattern.
+    ///
+    /// `None` if a rule for the client, reading and the kind has a target, and no earlier rule for these covers
+    /// every leaf at all values.
+    pub fn patterns_on_all(
+        &self,
+        alloc: Global,
+        client: &str,
+        kind: Kind,
+    ) -> Result<Option<Patterns<'_>>, NoMemory>
+        ensures same { IfOk result (λ o. IfSome o (λ ps. (c : Content) → c.kind ≡ kind → (l : Leaf)
+            → rules_in ps l ≡ spec.pattern_rules self.now client.now c l)) }
+        ensures none { IfOk result (λ o. IfNone o
+            (list_any (has_target_for client.now Op.Read kind) self.now ≡ true)) }
+    {
+        let mut patterns = Patterns::none(alloc);
+        let mut number = 0;
+        for rule in self.listed() {
+            number += 1;
+            if rule.is_about(client, Op::Read, kind) {
+                if !rule.targets().is_empty() {
+                    return Ok(None);
+                }
+                patterns.add_rule(alloc, rule, kind, number)?;
+                if patterns.is_complete() {
+                    return Ok(Some(patterns));
+                }
+            }
+        }
+        Ok(Some(patterns))
     }
 
     /// Returns the pattern of the leaf for the client's reading: the decisions of the rules that fit, in order,

@@ -1,15 +1,12 @@
-//! Decision tables and patterns that apply to all resources of a kind.
+//! Decision tables that apply to all resources of a kind.
 ghost use Rattle.std.specs.Prelude.{◌≡◌, true, IfOk, IfSome, IfNone};
 ghost use Rattle.std.specs.List.{list_any};
 ghost use Rattle.scim_schema.specs.declared.Leaf.{Leaf};
 ghost use Rattle.scim_cell.specs.Content.{Content};
 ghost use Rattle.scim_policy.specs.Decide as spec;
-ghost use Rattle.scim_policy.specs.PatternTable.{rules_in};
-ghost use Rattle.scim_policy.specs.Patterns.{pattern_rules};
 ghost use Rattle.scim_policy.specs.Table.{decision};
 
 use crate::decisions::Decisions;
-use crate::patterns::Patterns;
 use crate::rules::Policy;
 use scim_schema::{Kind, Op};
 use scim_text::NoMemory;
@@ -48,38 +45,5 @@ impl Policy {
             }
         }
         Ok(Some(decisions))
-    }
-
-    /// Computes the patterns of the client's reading on all resources of the kind, if they don't depend on the
-    /// resource. Value filters don't make them depend on it: they are part of a pattern.
-    ///
-    /// `None` if a rule for the client, reading and the kind has a target, and no earlier rule for these covers
-    /// every leaf at all values.
-    pub fn patterns_on_all(
-        &self,
-        alloc: Global,
-        client: &str,
-        kind: Kind,
-    ) -> Result<Option<Patterns<'_>>, NoMemory>
-        ensures same { IfOk result (λ o. IfSome o (λ ps. (c : Content) → c.kind ≡ kind → (l : Leaf)
-            → rules_in ps l ≡ pattern_rules self.now client.now c l)) }
-        ensures none { IfOk result (λ o. IfNone o
-            (list_any (spec.has_target_for client.now Op.Read kind) self.now ≡ true)) }
-    {
-        let mut patterns = Patterns::none(alloc);
-        let mut number = 0;
-        for rule in self.listed() {
-            number += 1;
-            if rule.is_about(client, Op::Read, kind) {
-                if !rule.targets().is_empty() {
-                    return Ok(None);
-                }
-                patterns.add_rule(alloc, rule, kind, number)?;
-                if patterns.is_complete() {
-                    return Ok(Some(patterns));
-                }
-            }
-        }
-        Ok(Some(patterns))
     }
 }
