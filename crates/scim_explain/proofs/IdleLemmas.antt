@@ -1,21 +1,25 @@
 -- Idle rules, one after another, and that they never decide.
-use Rattle.std.proofs.Common.{◌≡◌, refl, sym, ap, ◌∙◌, ℕ, zero, suc, ◌+◌, ◌-◌, ◌<◌, ◌≤◌, Bool, true, false, List, [], ◌∷◌, length, get_or, take, inl, inr, arith}
+use Rattle.std.proofs.Common.{◌≡◌, refl, sym, subst, ap, ◌∙◌, ℕ, zero, suc, ◌+◌, ◌-◌, ◌<◌, ◌≤◌, Bool, true, false, List, [], ◌∷◌, length, get_or, take, inl, inr, arith}
 use Rattle.std.specs.Prelude.{All, Option, Some, None, ◌≢◌, filter, option_map, position}
 use Rattle.std.specs.List.{filter_map, cons_option, enumerate_from}
 use Rattle.std.proofs.lemmas.Bool.{cases_Bool}
 use Rattle.std.proofs.lemmas.List.{get_or-take, length-take}
-use Rattle.std.proofs.lemmas.List.Elements.{All-nil, All-cons}
+use Rattle.std.proofs.lemmas.List.Elements.{All-nil, All-cons, All-weaker}
 use Rattle.std.proofs.lemmas.List.FromFn.{get_or-enumerate_from, length-enumerate_from}
 use Rattle.std.proofs.lemmas.List.Quantifiers.{position-Some}
 use Rattle.scim_schema.specs.declared.Op.{Op}
+use Rattle.scim_schema.specs.declared.Op.TheVariants.{Read}
 use Rattle.scim_schema.specs.declared.Leaf.{Leaf}
 use Rattle.scim_cell.specs.Content.{Content}
 use Rattle.scim_policy.specs.declared.rules.Decision.{Decision}
 use Rattle.scim_policy.specs.Rules.{Rule}
-use Rattle.scim_policy.specs.Decide.{fits, first_of, decide}
+use Rattle.scim_policy.specs.Decide.{decide, first_of, fits, fits_wholly}
+use Rattle.scim_policy.specs.Patterns.{decide_at, pattern, pattern_rules}
 use Rattle.scim_explain.specs.declared.never_deciding.IdleRule.{IdleRule}
 use Rattle.scim_explain.specs.Idle.{covers_rule, idle_behind, idle_rules}
 use Rattle.scim_explain.proofs.CoverLemmas.{covering_fits}
+use Rattle.scim_explain.proofs.ExplainLemmas.{whole_fits}
+use Rattle.scim_explain.proofs.TurnLemmas.{FitsInTurn, first_is, pattern_in_turn}
 use Rattle.scim_explain.proofs.ListLemmas.{left_out}
 
 -- the idle ones of some rules of a policy, numbered from one on
@@ -92,23 +96,70 @@ unfolding rule_in
 from_place None number y e = cc
 from_place (Some i) number y e = (i, (refl, sym (ap rule_in e)))
 
-module _ (policy : List Rule) (client : List ℕ) (op : Op) (c : Content) (l : Leaf) where
-  -- a rule that is idle behind those before it doesn't decide
-  not_deciding : (k : ℕ) (d : Rule) (y : IdleRule) → k < length policy → idle_behind (take k policy) (1 + k) (get_or policy k d) ≡ Some y → (decide policy client op c l).rule ≢ y.rule
-  unfolding decide
-  not_deciding k d y less e decides =
-      let place = from_place (position (λ (r : Rule). covers_rule r (get_or policy k d)) (take k policy)) (1 + k) y e in
-      let found = position-Some (λ (r : Rule). covers_rule r (get_or policy k d)) (take k policy) place.0 d place.1.0 in
-      let before : place.0 < k = omega (arith, found.0, length-take k policy) in
-      let covered : covers_rule (get_or policy place.0 d) (get_or policy k d) ≡ true = sym (ap (λ (r : Rule). covers_rule r (get_or policy k d)) (get_or-take k policy place.0 d before)) ∙ found.1 in
-      not_behind (fits client op c l) 1 policy place.0 k d (omega arith) before less (λ own. covering_fits (get_or policy place.0 d) (get_or policy k d) client op c l covered own) (decides ∙ place.1.1)
+-- what is true of each rule that is idle behind those before it is true of all idle rules
+all_idle : (policy : List Rule) (P : IdleRule → Type 0) → ((k : ℕ) (d : Rule) (y : IdleRule) → k < length policy → idle_behind (take k policy) (1 + k) (get_or policy k d) ≡ Some y → P y) → All P (idle_rules policy)
+all_idle policy P own =
+    all_of_made (λ (numbered : ℕ × Rule). idle_behind (take (numbered.0 - 1) policy) numbered.0 numbered.1) P (enumerate_from 1 policy)
+    (λ k d less y e.
+    let within : k < length policy = omega (arith, less, length-enumerate_from 1 policy) in
+    let there = get_or-enumerate_from 1 policy k d within in
+    let idle : idle_behind (take (1 + k - 1) policy) (1 + k) (get_or policy k d.1) ≡ Some y = sym (ap (λ (numbered : ℕ × Rule). idle_behind (take (numbered.0 - 1) policy) numbered.0 numbered.1) there) ∙ e in
+    let before : 1 + k - 1 ≡ k = omega arith in
+    own k d.1 y within (sym (ap (λ n. idle_behind (take n policy) (1 + k) (get_or policy k d.1)) before) ∙ idle))
 
-  pub never_deciding : All (λ (idle : IdleRule). (decide policy client op c l).rule ≢ idle.rule) (idle_rules policy)
-  never_deciding =
-      all_of_made (λ (numbered : ℕ × Rule). idle_behind (take (numbered.0 - 1) policy) numbered.0 numbered.1) (λ (idle : IdleRule). (decide policy client op c l).rule ≢ idle.rule) (enumerate_from 1 policy)
-      (λ k d less y e.
-      let within : k < length policy = omega (arith, less, length-enumerate_from 1 policy) in
-      let there = get_or-enumerate_from 1 policy k d within in
-      let idle : idle_behind (take (1 + k - 1) policy) (1 + k) (get_or policy k d.1) ≡ Some y = sym (ap (λ (numbered : ℕ × Rule). idle_behind (take (numbered.0 - 1) policy) numbered.0 numbered.1) there) ∙ e in
-      let before : 1 + k - 1 ≡ k = omega arith in
-      not_deciding k d.1 y within (sym (ap (λ n. idle_behind (take n policy) (1 + k) (get_or policy k d.1)) before) ∙ idle))
+-- a rule that is idle has its number, and an earlier rule covers it
+covering : (policy : List Rule) (k : ℕ) (d : Rule) (y : IdleRule) → k < length policy → idle_behind (take k policy) (1 + k) (get_or policy k d) ≡ Some y
+    → (i : ℕ) × ((i < k) × (covers_rule (get_or policy i d) (get_or policy k d) ≡ true) × (y.rule ≡ 1 + k))
+covering policy k d y less e =
+    let place = from_place (position (λ (r : Rule). covers_rule r (get_or policy k d)) (take k policy)) (1 + k) y e in
+    let found = position-Some (λ (r : Rule). covers_rule r (get_or policy k d)) (take k policy) place.0 d place.1.0 in
+    let before : place.0 < k = omega (arith, found.0, length-take k policy) in
+    let covered : covers_rule (get_or policy place.0 d) (get_or policy k d) ≡ true = sym (ap (λ (r : Rule). covers_rule r (get_or policy k d)) (get_or-take k policy place.0 d before)) ∙ found.1 in
+    (place.0, (before, covered, place.1.1))
+
+pub never_deciding : (policy : List Rule) (client : List ℕ) (op : Op) (c : Content) (l : Leaf) → All (λ (idle : IdleRule). (decide policy client op c l).rule ≢ idle.rule) (idle_rules policy)
+unfolding decide
+never_deciding policy client op c l =
+    all_idle policy (λ (idle : IdleRule). (decide policy client op c l).rule ≢ idle.rule)
+    (λ k d y less e decides.
+    let by = covering policy k d y less e in
+    not_behind (fits_wholly client op c l) 1 policy by.0 k d (omega arith) by.1.0 less
+    (λ own. covering_fits (get_or policy by.0 d) (get_or policy k d) client op c l by.1.1 (whole_fits client op c l (get_or policy k d) own))
+    (decides ∙ by.1.2))
+
+-- ---- patterns
+
+-- the rule with an idle rule's number fits only where an earlier one fits and covers the leaf at all values
+not_idle : (policy : List Rule) (client : List ℕ) (c : Content) (l : Leaf) (k : ℕ) (d : Rule) (y : IdleRule) (number : ℕ) → k < length policy
+    → idle_behind (take k policy) (1 + k) (get_or policy k d) ≡ Some y → FitsInTurn client c l d 1 policy number → number ≢ y.rule
+not_idle policy client c l k d y number less e in_turn same =
+    let by = covering policy k d y less e in
+    elim in_turn [
+      | inl none ↦ absurd (omega (arith, none, same, by.1.2))
+      | inr there ↦ absurd (
+          let place : there.0 ≡ k = omega (arith, there.1.0, same, by.1.2) in
+          let fit : fits client Read c l (get_or policy k d) ≡ true = subst (λ (j : ℕ). fits client Read c l (get_or policy j d) ≡ true) place there.1.1 in
+          let whole : fits_wholly client Read c l (get_or policy by.0 d) ≡ true = covering_fits (get_or policy by.0 d) (get_or policy k d) client Read c l by.1.1 fit in
+          let part : fits_wholly client Read c l (get_or policy by.0 d) ≡ false = there.1.2 by.0 (omega (arith, by.1.0, place)) in
+          cc
+          )
+    ]
+
+in_no_pattern_of : (policy : List Rule) (client : List ℕ) (c : Content) (l : Leaf) (k : ℕ) (d : Rule) (y : IdleRule) → k < length policy
+    → idle_behind (take k policy) (1 + k) (get_or policy k d) ≡ Some y → All (λ (e : Decision). e.rule ≢ y.rule) (pattern policy client c l)
+in_no_pattern_of policy client c l k d y less e =
+    All-weaker (λ (g : Decision). FitsInTurn client c l d 1 policy g.rule) (λ (g : Decision). g.rule ≢ y.rule)
+    (λ g in_turn. not_idle policy client c l k d y g.rule less e in_turn) (pattern policy client c l) (pattern_in_turn client c l d policy)
+
+pub in_no_pattern : (policy : List Rule) (client : List ℕ) (c : Content) (l : Leaf) → All (λ (idle : IdleRule). All (λ (d : Decision). d.rule ≢ idle.rule) (pattern policy client c l)) (idle_rules policy)
+in_no_pattern policy client c l =
+    all_idle policy (λ (idle : IdleRule). All (λ (d : Decision). d.rule ≢ idle.rule) (pattern policy client c l)) (λ k d y less e. in_no_pattern_of policy client c l k d y less e)
+
+pub no_value : (policy : List Rule) (client : List ℕ) (c : Content) (l : Leaf) (place : ℕ) → All (λ (idle : IdleRule). (decide_at policy client c l place).rule ≢ idle.rule) (idle_rules policy)
+unfolding decide_at
+no_value policy client c l place =
+    all_idle policy (λ (idle : IdleRule). (decide_at policy client c l place).rule ≢ idle.rule)
+    (λ k d y less e.
+    first_is _ (λ (g : Decision). g.rule ≢ y.rule) (pattern_rules policy client c l)
+    (λ none. absurd (omega (arith, none, (covering policy k d y less e).1.2)))
+    (in_no_pattern_of policy client c l k d y less e))

@@ -1,20 +1,18 @@
 -- What explanations tell of the rules before the deciding one.
 use Rattle.std.proofs.Common.{◌≡◌, refl, sym, ap, ◌∙◌, subst, ℕ, ◌+◌, ◌-◌, Bool, false, List, [], ◌∷◌, length, map, take, inl, inr, arith, eqb-true}
-use Rattle.std.specs.Prelude.{All, Some, ◌==◌, ◌⊎◌, filter, if◌then◌else◌}
+use Rattle.std.specs.Prelude.{All, ◌==◌, ◌⊎◌, filter, if◌then◌else◌}
 use Rattle.std.specs.List.{before_first, enumerate_from}
 use Rattle.std.proofs.lemmas.Bool.{cases_Bool}
 use Rattle.std.proofs.lemmas.List.{length-map}
 use Rattle.scim_schema.specs.declared.Op.{Op}
 use Rattle.scim_schema.specs.declared.Leaf.{Leaf}
 use Rattle.scim_cell.specs.Content.{Content}
-use Rattle.scim_policy.specs.declared.misfits.Misfit.{Misfit}
 use Rattle.scim_policy.specs.declared.rules.Decision.{Decision}
 use Rattle.scim_policy.specs.Rules.{Rule}
-use Rattle.scim_policy.specs.Decide.{fits, first_of, misfit_of, decide}
-use Rattle.scim_explain.specs.Explain.{explained}
-use Rattle.scim_explain.specs.Laws.{earlier}
-use Rattle.scim_explain.proofs.ExplainLemmas.{misfit_fits}
-use Rattle.scim_explain.proofs.ListLemmas.{all_made, front_fails, front_passes, left_out, none_passes}
+use Rattle.scim_policy.specs.Decide.{fits_wholly, first_of, decide}
+use Rattle.scim_explain.specs.Explain.{entry_of, explained}
+use Rattle.scim_explain.specs.Laws.{rules_before}
+use Rattle.scim_explain.proofs.ListLemmas.{front_fails, front_passes, left_out, none_passes}
 
 -- what the first of numbered rules decides that passes
 abbrev first_passing : (Rule → Bool) → ℕ → List Rule → Decision
@@ -58,25 +56,19 @@ above_zero number n whole part e = elim (cases_Bool (number == 0)) [
 
 module _ (policy : List Rule) (client : List ℕ) (op : Op) (c : Content) (l : Leaf) where
   abbrev front : List Rule
-  front = before_first (fits client op c l) policy
+  front = before_first (fits_wholly client op c l) policy
 
-  -- the rules that an explanation tells of are those before the first that fits
-  earlier_is : earlier policy (explained policy client op c l) ≡ front
+  -- the rules that an explanation tells of are those before the first that fits and covers the leaf at all values
+  before_is : rules_before policy (explained policy client op c l) ≡ front
   unfolding decide
-  earlier_is = elim (first_number (fits client op c l) 1 policy) [ inl none ↦ rw none.0 (sym none.1) | inr one ↦ above_zero (explained policy client op c l).decision.rule (length front) policy (λ n. take n policy) one.0 ∙ one.1 ]
+  before_is = elim (first_number (fits_wholly client op c l) 1 policy) [ inl none ↦ rw none.0 (sym none.1) | inr one ↦ above_zero (explained policy client op c l).decision.rule (length front) policy (λ n. take n policy) one.0 ∙ one.1 ]
 
-  misfits_own : map Some (explained policy client op c l).misfits ≡ map (misfit_of client op c l) front
-  misfits_own = all_made (fits client op c l) (misfit_of client op c l) (misfit_fits client op c l) policy
-
-  misfits_length : length (explained policy client op c l).misfits ≡ length front
-  misfits_length = sym (length-map (explained policy client op c l).misfits (λ (m : Misfit). Some m)) ∙ ap length misfits_own ∙ length-map front (misfit_of client op c l)
-
-  pub as_many : length (explained policy client op c l).misfits ≡ (if (explained policy client op c l).decision.rule == 0 then length policy else (explained policy client op c l).decision.rule - 1)
+  pub as_many : length (explained policy client op c l).entries ≡ (if (explained policy client op c l).decision.rule == 0 then length policy else (explained policy client op c l).decision.rule - 1)
   unfolding decide
-  as_many = misfits_length ∙ elim (first_number (fits client op c l) 1 policy) [ inl none ↦ rw none.0 (ap length none.1) | inr one ↦ sym (above_zero (explained policy client op c l).decision.rule (length front) (length policy) (λ n. n) one.0) ]
+  as_many = length-map front (entry_of client op c l) ∙ elim (first_number (fits_wholly client op c l) 1 policy) [ inl none ↦ rw none.0 (ap length none.1) | inr one ↦ sym (above_zero (explained policy client op c l).decision.rule (length front) (length policy) (λ n. n) one.0) ]
 
-  pub own_misfits : map Some (explained policy client op c l).misfits ≡ map (misfit_of client op c l) (earlier policy (explained policy client op c l))
-  own_misfits = misfits_own ∙ sym (ap (map (misfit_of client op c l)) earlier_is)
+  pub own_entries : (explained policy client op c l).entries ≡ map (entry_of client op c l) (rules_before policy (explained policy client op c l))
+  own_entries = ap (map (entry_of client op c l)) (sym before_is)
 
-  pub none_fits : All (λ r. fits client op c l r ≡ false) (earlier policy (explained policy client op c l))
-  none_fits = subst (All (λ r. fits client op c l r ≡ false)) (sym earlier_is) (none_passes (fits client op c l) policy)
+  pub none_fits_wholly : All (λ r. fits_wholly client op c l r ≡ false) (rules_before policy (explained policy client op c l))
+  none_fits_wholly = subst (All (λ r. fits_wholly client op c l r ≡ false)) (sym before_is) (none_passes (fits_wholly client op c l) policy)

@@ -3,6 +3,8 @@ use Rattle.std.specs.Prelude.{ℕ, Bool, List, ◌++◌, codes, decimal, if◌th
 use Rattle.std.specs.List.{flat_map, enumerate_from}
 use Rattle.scim_policy.specs.declared.misfits.Misfit.{Misfit}
 use Rattle.scim_policy.specs.declared.misfits.Misfit.TheVariants as misfit
+use Rattle.scim_explain.specs.declared.explanations.Earlier.{Earlier}
+use Rattle.scim_explain.specs.declared.explanations.Earlier.TheVariants as earlier
 use Rattle.scim_explain.specs.Explain.{Explanation}
 
 -- the word for the part of a rule that doesn't fit
@@ -21,10 +23,15 @@ effect_word allow = if allow then codes "allow" else codes "deny"
 abbrev pub rule_line : ℕ → List ℕ → List ℕ
 rule_line number word = codes "rule " ++ decimal number ++ codes ": " ++ word ++ codes "\n"
 
--- a line for each misfit; the first misfit is of the rule with the number `first`, the next of the next rule
-abbrev pub misfit_lines : ℕ → List Misfit → List ℕ
-misfit_lines first misfits = flat_map (λ (numbered : ℕ × Misfit). rule_line numbered.0 (misfit_word numbered.1)) (enumerate_from first misfits)
+-- what is said of a rule before the deciding one: the part that doesn't fit, or that it decides in part
+abbrev pub entry_word : Earlier → List ℕ
+entry_word (earlier.Misfit misfit) = misfit_word misfit
+entry_word (earlier.InPart allow) = effect_word allow ++ codes " in part"
 
--- the text of an explanation: a line for each misfit, and one for the decision
+-- a line for each entry; the first entry is of the rule with the number `first`, the next of the next rule
+abbrev pub entry_lines : ℕ → List Earlier → List ℕ
+entry_lines first entries = flat_map (λ (numbered : ℕ × Earlier). rule_line numbered.0 (entry_word numbered.1)) (enumerate_from first entries)
+
+-- the text of an explanation: a line for each entry, and one for the decision
 abbrev pub explanation_text : Explanation → List ℕ
-explanation_text e = misfit_lines 1 e.misfits ++ rule_line e.decision.rule (effect_word e.decision.allow)
+explanation_text e = entry_lines 1 e.entries ++ rule_line e.decision.rule (effect_word e.decision.allow)

@@ -1,20 +1,31 @@
 //! Laws about explanations and idle rules.
 ghost use Rattle.scim_explain.specs.Laws as law;
 
-/// An explanation has exactly one misfit for each rule before the one that decided, or for each rule if
+/// An explanation has exactly one entry for each rule before the one that decided, or for each rule if
 /// none decided.
 ///
-/// Each misfit is the first part of its rule that doesn't fit, and none of these rules fits.
-pub fn each_earlier_rule_has_its_misfit()
+/// Each entry is the first part of its rule that doesn't fit, or, if the rule fits, what it decides in part.
+/// None of these rules fits and covers the leaf at all values.
+pub fn each_earlier_rule_has_its_entry()
     ensures as_many { law.TellsOfEachEarlierRule }
-    ensures own { law.TellsTheMisfitOfEach }
-    ensures unfit { law.NoEarlierRuleFits }
+    ensures own { law.TellsTheEntryOfEach }
+    ensures unfit { law.NoEarlierRuleFitsWholly }
 {}
 
-/// A rule that `idle_rules` returns never decides, for any client, operation, resource and leaf.
+/// For reading, the entries in part, with their numbers, and the decision are the pattern of the leaf: they
+/// name the rules that decide on some value, in order. For any other operation no entry is in part.
+pub fn explanations_tell_the_pattern()
+    ensures reading { law.TellsThePattern }
+    ensures others { law.DecidesNothingElseInPart }
+{}
+
+/// A rule that `idle_rules` returns never decides, for any client, operation, resource and leaf: neither on
+/// the leaf at all values nor, for reading, at any value.
 ///
-/// The earlier rule that covers it fits wherever the idle rule fits.
+/// Wherever the idle rule fits, the earlier rule that covers it fits and covers the leaf at all values.
 pub fn idle_rules_never_decide()
     ensures covered { law.CoveringRulesFit }
     ensures never { law.IdleRulesNeverDecide }
+    ensures pattern { law.IdleRulesAreInNoPattern }
+    ensures values { law.IdleRulesDecideNoValue }
 {}

@@ -1,4 +1,4 @@
-//! Explains the decisions of a policy: which rule decided, and why each rule before it doesn't fit.
+//! Explains the decisions of a policy: which rule decided, and why each rule before it didn't.
 //!
 //! Also prints the decisions on all leaves of a resource, and finds rules that can never decide.
 //!
@@ -12,7 +12,9 @@ mod never_deciding;
 mod texts;
 
 pub use decision_table::table;
-pub use explanations::{Explanation, explain};
-pub use laws::{each_earlier_rule_has_its_misfit, idle_rules_never_decide};
+pub use explanations::{Earlier, Explanation, explain};
+pub use laws::{
+    each_earlier_rule_has_its_entry, explanations_tell_the_pattern, idle_rules_never_decide,
+};
 pub use never_deciding::{IdleRule, idle_rules, print_idle_rules};
 pub use texts::{effect_word, print, rule_line};

@@ -7,7 +7,7 @@ ghost use Rattle.scim_schema.specs.contracts.Op.{the_type as the_op};
 ghost use Rattle.scim_explain.specs.Idle as spec;
 
 use crate::texts::rule_line;
-use scim_policy::{ClientName, Policy, PolicyPath, Rule};
+use scim_policy::{ClientName, FilteredPath, Policy, PolicyPath, Rule};
 use scim_schema::{Kind, Op};
 use scim_text::{NoMemory, push};
 use std::alloc::Global;
@@ -25,8 +25,9 @@ pub struct IdleRule {
 /// Finds the rules that can never decide, in order of their numbers.
 ///
 /// A rule is found if a single earlier rule without a target covers its clients, operations and types and, on
-/// each of its types, its paths. Other rules that never decide aren't found, such as a rule that is only
-/// covered by two rules together, or a rule whose target matches no resource.
+/// each of its types, its paths. Only paths without a value filter cover; they cover paths with one too.
+/// Other rules that never decide aren't found, such as a rule that is only covered by two rules together, or
+/// a rule whose target matches no resource.
 ///
 /// Each rule is compared with all rules before it, which takes quadratic time; a policy has at most
 /// 1,000 rules.
@@ -114,11 +115,22 @@ fn covers_kinds(others: &[Kind], kinds: &[Kind]) -> bool
     kinds.iter().all(|kind| others.contains(kind))
 }
 
-/// Whether `earlier` covers all leaves that `rule` covers on each of its kinds.
+/// Whether `earlier` covers at all values, on each kind of `rule`, all leaves that `rule` covers at all values
+/// or at some.
 fn covers_on_kinds(earlier: &Rule, rule: &Rule) -> bool
     ensures { result ≡ list_all (spec.covers_on_kind earlier.now rule.now) rule.now.kinds }
 {
-    rule.kinds().iter().all(|kind| covers_paths(earlier.paths_on(*kind), rule.paths_on(*kind)))
+    rule.kinds()
+        .iter()
+        .all(|kind| covers_on_kind(earlier, rule, *kind))
+}
+
+/// Whether `earlier` covers at all values, on `kind`, all leaves that `rule` covers at all values or at some.
+fn covers_on_kind(earlier: &Rule, rule: &Rule, kind: Kind) -> bool
+    ensures { result ≡ spec.covers_on_kind earlier.now rule.now kind }
+{
+    let others = earlier.paths_on(kind);
+    covers_paths(others, rule.paths_on(kind)) && covers_all_filtered(others, rule.filtered_on(kind))
 }
 
 /// Whether each of `paths` is covered by one of `others`.
@@ -126,6 +138,35 @@ fn covers_paths(others: &[PolicyPath], paths: &[PolicyPath]) -> bool
     ensures { result ≡ spec.are_covered spec.covers_path others.now paths.now }
 {
     paths.iter().all(|path| is_covered(others, *path))
+}
+
+/// Whether `others` cover at all values every leaf that one of `paths` covers at some.
+fn covers_all_filtered(others: &[PolicyPath], paths: &[FilteredPath]) -> bool
+    ensures { result ≡ list_all (spec.covers_filtered others.now) paths.now }
+{
+    paths.iter().all(|path| covers_filtered(others, path))
+}
+
+/// Whether `others` cover at all values every leaf that `path` covers at some. True if `path` is on no
+/// attribute, so that it covers nothing.
+fn covers_filtered(others: &[PolicyPath], path: &FilteredPath) -> bool
+    ensures { result ≡ spec.covers_filtered others.now path.now }
+{
+    match without_filter(path) {
+        Some(path) => is_covered(others, path),
+        None => true,
+    }
+}
+
+/// The path without its value filter. `None` if the filter isn't a value path on an attribute.
+fn without_filter(path: &FilteredPath) -> Option<PolicyPath>
+    ensures { result ≡ spec.without_filter path.now }
+{
+    let attribute = path.attribute()?;
+    Some(match path.sub_attribute() {
+        Some(sub_attribute) => PolicyPath::SubAttribute(attribute, sub_attribute),
+        None => PolicyPath::Attribute(attribute),
+    })
 }
 
 /// Whether one of `others` covers `path`.

@@ -1,7 +1,0 @@
-use Rattle.std.proofs.Common.{◌≡◌, ◌+◌, ◌++◌, drop, string_bytes}
-use Rattle.scim_explain.specs.Texts as spec
-use Rattle.scim_explain.proofs.texts.misfit_lines.Given as goal
-
--- the lines so far, and those of the misfits from this one on, are those of all
-abbrev pub invariant-loop-index : goal.invariant-loop-index
-invariant-loop-index l = string_bytes l.text ++ spec.misfit_lines (l.index + 1) (drop l.index l.misfits) ≡ spec.misfit_lines 1 l.misfits
