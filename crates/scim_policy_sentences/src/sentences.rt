@@ -1,5 +1,5 @@
 //! Prints each rule of a policy as a sentence.
-ghost use Rattle.std.specs.Prelude.{◌≡◌, IfOk, map, string_bytes};
+ghost use Rattle.std.specs.Prelude.{◌≡◌, ◌++◌, IfOk, OnOk, map, string_bytes};
 ghost use Rattle.scim_schema.specs.Names.{op_name};
 ghost use Rattle.scim_policy_sentences.specs.Lists.{listed as listed_words};
 ghost use Rattle.scim_policy_sentences.specs.Sentences as spec;
@@ -10,7 +10,7 @@ use crate::lists::{joined, listed};
 use crate::targets::filter_text;
 use scim_audit::leaf_path;
 use scim_explain::{effect_word, rule_line};
-use scim_policy::{ClientName, Policy, PolicyPath, Rule, Target};
+use scim_policy::{ClientName, FilteredPath, Policy, PolicyPath, Rule, Target};
 use scim_schema::{Kind, Leaf, Op};
 use scim_text::{NoMemory, push};
 use std::alloc::Global;
@@ -101,7 +101,7 @@ fn kind_clause(alloc: Global, rule: &Rule, kind: Kind) -> Result<String, NoMemor
     ensures { IfOk result (λ text. string_bytes text ≡ spec.kind_clause rule.now kind) }
 {
     let target = target_words(alloc, rule, kind)?;
-    let paths = paths_text(alloc, rule.paths_on(kind))?;
+    let paths = paths_text(alloc, rule, kind)?;
     Ok([kind.name(), target.as_str(), ": ", paths.as_str()].concat(alloc)?)
 }
 
@@ -125,16 +125,40 @@ fn target_on(targets: &[Target], kind: Kind) -> Option<&Target>
     targets.iter().find(|target| kind == target.kind())
 }
 
-/// The paths of a rule, joined as in a sentence.
-fn paths_text(alloc: Global, paths: &[PolicyPath]) -> Result<String, NoMemory>
-    ensures { IfOk result (λ text. string_bytes text
-        ≡ listed_words (map spec.path_word paths.now)) }
+/// The paths of a rule on resources of a kind, joined as in a sentence. Those with a value filter are last.
+fn paths_text(alloc: Global, rule: &Rule, kind: Kind) -> Result<String, NoMemory>
+    ensures { IfOk result (λ text. string_bytes text ≡ spec.paths_text rule.now kind) }
+{
+    let mut words = path_words(alloc, rule.paths_on(kind))?;
+    push_filtered(alloc, rule.filtered_on(kind), &mut words)?;
+    listed(alloc, words.as_slice())
+}
+
+/// The text of each path.
+fn path_words(alloc: Global, paths: &[PolicyPath]) -> Result<Vec<String>, NoMemory>
+    ensures { IfOk result (λ words. map string_bytes words.items
+        ≡ map spec.path_word paths.now) }
 {
     let mut words = Vec::new(alloc);
     for path in paths {
         push(&mut words, path_word(alloc, *path)?)?;
     }
-    listed(alloc, words.as_slice())
+    Ok(words)
+}
+
+/// Appends the text of each path. On an error `words` may have some of the texts.
+fn push_filtered(
+    alloc: Global,
+    paths: &[FilteredPath],
+    words: &mut Vec<String>,
+) -> Result<(), NoMemory>
+    ensures { OnOk result (map string_bytes words.new.items
+        ≡ map string_bytes words.old.items ++ map spec.filtered_word paths.now) }
+{
+    for path in paths {
+        push(words, filtered_word(alloc, path)?)?;
+    }
+    Ok(())
 }
 
 /// The text of a path as in policy files, or `everything` for all paths.
@@ -148,4 +172,17 @@ fn path_word(alloc: Global, path: PolicyPath) -> Result<String, NoMemory>
             leaf_path(alloc, Leaf::of(attribute, sub_attribute))
         }
     }
+}
+
+/// The text of a path with a value filter, such as `emails[type eq "work"].value`: its value path, and the
+/// sub-attribute after the brackets if there is one.
+fn filtered_word(alloc: Global, path: &FilteredPath) -> Result<String, NoMemory>
+    ensures { IfOk result (λ text. string_bytes text ≡ spec.filtered_word path.now) }
+{
+    let mut text = filter_text(alloc, path.filter())?;
+    if let Some(sub_attribute) = path.sub_attribute() {
+        text.push('.')?;
+        text.push_str(sub_attribute.name())?;
+    }
+    Ok(text)
 }

@@ -1,6 +1,6 @@
 use Rattle.std.proofs.Common.{◌≡◌, map, take, string_bytes}
 use Rattle.scim_policy_sentences.specs.Sentences as spec
-use Rattle.scim_policy_sentences.proofs.sentences.paths_text.Given as goal
+use Rattle.scim_policy_sentences.proofs.sentences.path_words.Given as goal
 
 -- the words so far are those of the paths before this one
 abbrev pub invariant-loop-path : goal.invariant-loop-path
