@@ -52,7 +52,7 @@ impl<'a> Question<'a> {
 }
 
 /// Writes the explanation of the policy's decision on the question's leaf: which rule decides, and why each
-/// rule before it doesn't apply. Without a leaf, writes a table of the decisions on all leaves.
+/// rule before it doesn't. Without a leaf, writes a table of the decisions on all leaves.
 ///
 /// The policy decides on the resource as it is stored. Fails with `Absent` if no resource of the kind has the
 /// id. Fails with `Database` if the store can't be read. Fails with `Output` if a write fails; then a prefix
