@@ -2,6 +2,7 @@ pub mod code
 pub mod Access
 pub mod Control
 pub mod Decide
+pub mod Opened
 pub mod PatternLaws
 pub mod PatternTable
 pub mod Patterns

@@ -15,6 +15,7 @@ mod access_rights;
 mod decisions;
 mod laws;
 mod misfits;
+mod opened_reading;
 mod patterns;
 mod reading_rules;
 mod rule_fit;
