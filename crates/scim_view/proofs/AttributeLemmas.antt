@@ -1,4 +1,4 @@
--- What may be seen of some attributes alone is what may be seen of them in the whole, whatever groups list the resource.
+-- What a test leaves of some attributes alone is what it leaves of them in the whole, whatever groups list the resource.
 use Rattle.std.proofs.Common.{◌≡◌, arith, refl, sym, ◌∙◌, ap, subst, ℕ, zero, suc, Bool, true, false, ◌&&◌, inl, inr, List, [], ◌∷◌, ◌++◌, map, filter}
 use Rattle.std.specs.Prelude.{All, AllPairs}
 use Rattle.std.specs.List.{list_any}
@@ -23,15 +23,15 @@ use Rattle.scim_cell.specs.declared.rows.Field.{Field}
 use Rattle.scim_cell.specs.Place.{unit_cmp}
 use Rattle.scim_cell.specs.Content.{Content, IsPart}
 use Rattle.scim_cell.specs.Order.{id_cmp}
-use Rattle.scim_cell.specs.Rows.{Row, Test, rows, put_values, restricted, restricted_row, has_fields, AreSound, AreValues, IsSoundField, IsSoundRow, Precedes}
+use Rattle.scim_cell.specs.Rows.{Row, Test, rows, content, put_values, restricted, restricted_row, has_fields, AreSound, AreValues, IsSoundField, IsSoundRow, Precedes}
 use Rattle.scim_value.specs.Members.{lists}
 use Rattle.scim_value.proofs.Facts.{sound_part, unit_same, unit_total, rows_content, put_sound, restricted_sound}
 use Rattle.scim_policy.specs.declared.rules.Decision.{Decision}
 use Rattle.scim_policy.proofs.Facts.{kept_rows}
-use Rattle.scim_view.specs.View.{may_be_seen, may_be_seen_of, shows_some, visible_attributes}
+use Rattle.scim_view.specs.View.{may_be_seen, shows_some, visible_attributes}
 use Rattle.scim_view.specs.Groups.{memberships, rows_with, visible_with}
 use Rattle.scim_view.specs.Sorted.{sorted_by}
-use Rattle.scim_view.proofs.GroupLemmas.{restricted-put_values, seen_values}
+use Rattle.scim_view.proofs.GroupLemmas.{restricted-put_values, seen_values, shows}
 
 -- ---- the rows that a test leaves
 
@@ -149,11 +149,10 @@ module _ (keep : Attribute → Bool) (none : keep Groups ≡ false) where
       ∙ ap (λ (xs : List Row). kept_rows keep (lower_rows rs) ++ xs) (filter-append test vs (higher_rows rs) ∙ ap (λ (xs : List Row). xs ++ kept_rows keep (higher_rows rs)) (none_kept vs own))
       ∙ beside rs up
 
-  -- nor do the groups that list a resource, of what may be seen of it
-  kept_with : (d : Leaf → Decision) (base : List ℕ) (gs : List Content) (c : Content) → IsPart c
-      → kept_rows keep (restricted (may_be_seen d c.kind) (rows_with (memberships base gs c.id) c)) ≡ kept_rows keep (restricted (may_be_seen d c.kind) (rows c))
-  kept_with d base gs c part =
-      let test = may_be_seen d c.kind in
+  -- nor do the groups that list a resource, of what a test leaves of it
+  kept_with : (test : Test) (base : List ℕ) (gs : List Content) (c : Content) → IsPart c
+      → kept_rows keep (restricted test (rows_with (memberships base gs c.id) c)) ≡ kept_rows keep (restricted test (rows c))
+  kept_with test base gs c part =
       let ms = memberships base gs c.id in
       let values = seen_values test base (sorted_by id_cmp (filter (lists c.id) gs)) in
       let order = (restricted_sound c.kind test (rows c) (sound_part c part)).in_order in
@@ -162,12 +161,15 @@ module _ (keep : Attribute → Bool) (none : keep Groups ≡ false) where
         | inr n ↦ rw n refl
       ]
 
--- ---- what may be seen
+-- ---- what a test leaves of some attributes
 
--- what may be seen of a resource has sound rows with its groups too
-sound_with : (d : Leaf → Decision) (base : List ℕ) (gs : List Content) (c : Content) → IsPart c → AreSound c.kind (restricted (may_be_seen d c.kind) (rows_with (memberships base gs c.id) c))
-sound_with d base gs c part =
-    let test = may_be_seen d c.kind in
+-- the test of the rows of some attributes
+abbrev pub of_some : List Attribute → Test → Test
+of_some attributes test r l = list_any (sameb the_attribute r.unit.attribute) attributes && test r l
+
+-- what a test leaves of a resource has sound rows with its groups too
+sound_with : (test : Test) (base : List ℕ) (gs : List Content) (c : Content) → IsPart c → AreSound c.kind (restricted test (rows_with (memberships base gs c.id) c))
+sound_with test base gs c part =
     let ms = memberships base gs c.id in
     let own = restricted_sound c.kind test (rows c) (sound_part c part) in
     elim (cases_Bool (sameb the_kind c.kind User)) [
@@ -178,45 +180,62 @@ sound_with d base gs c part =
       | inr n ↦ rw n own
     ]
 
+-- a test leaves the same rows of some attributes in these alone and in all
+pub some_left : (attributes : List Attribute) (test : Test) (rs : List Row)
+    → kept_rows (λ a. list_any (sameb the_attribute a) attributes) (restricted (of_some attributes test) rs) ≡ kept_rows (λ a. list_any (sameb the_attribute a) attributes) (restricted test rs)
+some_left attributes test rs =
+    left_alike (λ a. list_any (sameb the_attribute a) attributes) (of_some attributes test) test rs
+    (λ r own. ap (λ (b : Bool). record { unit = r.unit; fields = filter (λ (f : Field). b && test r f.leaf) r.fields }) own)
+
+-- so it does whatever groups list the resource, where `groups` isn't one of the attributes
+pub left_with : (attributes : List Attribute) (test : Test) (base : List ℕ) (gs : List Content) (c : Content) → IsPart c → list_any (sameb the_attribute Groups) attributes ≡ false
+    → kept_rows (λ a. list_any (sameb the_attribute a) attributes) (rows (content c.kind c.id (restricted (of_some attributes test) (rows c))))
+    ≡ kept_rows (λ a. list_any (sameb the_attribute a) attributes) (rows (content c.kind c.id (restricted test (rows_with (memberships base gs c.id) c))))
+left_with attributes test base gs c part none =
+    let keep : Attribute → Bool = λ a. list_any (sameb the_attribute a) attributes in
+    ap (kept_rows keep) (rows_content c.kind c.id _ (restricted_sound c.kind (of_some attributes test) (rows c) (sound_part c part)))
+    ∙ some_left attributes test (rows c)
+    ∙ sym (kept_with keep none test base gs c part)
+    ∙ sym (ap (kept_rows keep) (rows_content c.kind c.id _ (sound_with test base gs c part)))
+
 -- some attributes have the same rows in what may be seen of them alone and in what may be seen of all, whatever groups list the resource, where `groups` isn't one of them
 pub attributes_alike : (attributes : List Attribute) (d : Leaf → Decision) (base : List ℕ) (gs : List Content) (c : Content) → IsPart c → list_any (sameb the_attribute Groups) attributes ≡ false
     → kept_rows (λ a. list_any (sameb the_attribute a) attributes) (rows (visible_attributes attributes d c))
     ≡ kept_rows (λ a. list_any (sameb the_attribute a) attributes) (rows (visible_with d (memberships base gs c.id) c))
 unfolding visible_attributes visible_with
-attributes_alike attributes d base gs c part none =
-    let keep : Attribute → Bool = λ a. list_any (sameb the_attribute a) attributes in
-    let some = may_be_seen_of attributes d c.kind in
-    let all = may_be_seen d c.kind in
-    let alike : (r : Row) → keep r.unit.attribute ≡ true → restricted_row some r ≡ restricted_row all r
-    = λ r own. ap (λ (b : Bool). record { unit = r.unit; fields = filter (λ (f : Field). b && all r f.leaf) r.fields }) own in
-    ap (kept_rows keep) (rows_content c.kind c.id _ (restricted_sound c.kind some (rows c) (sound_part c part)))
-    ∙ left_alike keep some all (rows c) alike
-    ∙ sym (kept_with keep none d base gs c part)
-    ∙ sym (ap (kept_rows keep) (rows_content c.kind c.id _ (sound_with d base gs c part)))
+attributes_alike attributes d base gs c part none = left_with attributes (may_be_seen d c.kind) base gs c part none
 
--- ---- attributes of which nothing may be seen
+-- ---- attributes of which a test leaves nothing
 
--- no leaf of an attribute of which nothing may be seen may be seen
-hidden_leaf : (d : Leaf → Decision) (kind : Kind) (a : Attribute) (r : Row) (l : Leaf) → HasLeaf kind l → sameb the_attribute l.attribute a ≡ true → shows_some d kind a ≡ false → may_be_seen d kind r l ≡ false
-hidden_leaf d kind a r l there own none =
-    let test : Leaf → Bool = λ m. sameb the_attribute m.attribute a && may_be_seen d kind r m in
-    elim (cases_Bool (may_be_seen d kind r l)) [
+-- whether a test of leaves passes some leaf of the attribute
+abbrev pub some_leaf : (Leaf → Bool) → Kind → Attribute → Bool
+some_leaf shows kind a = list_any (λ l. sameb the_attribute l.attribute a && shows l) (leaves kind)
+
+-- none of its leaves passes where none does
+hidden_leaf : (shows : Leaf → Bool) (kind : Kind) (a : Attribute) (l : Leaf) → HasLeaf kind l → sameb the_attribute l.attribute a ≡ true → some_leaf shows kind a ≡ false → shows l ≡ false
+hidden_leaf shows kind a l there own none =
+    let test : Leaf → Bool = λ m. sameb the_attribute m.attribute a && shows m in
+    elim (cases_Bool (shows l)) [
       | inr f ↦ f
       | inl t ↦
           let shown : test l ≡ true = rw (own, t) refl in
-          let some : shows_some d kind a ≡ true = list_any_at test (leaves kind) there.0 l there.1 (ap test there.2 ∙ shown) in
+          let some : some_leaf shows kind a ≡ true = list_any_at test (leaves kind) there.0 l there.1 (ap test there.2 ∙ shown) in
           absurd (cc)
     ]
 
+-- a test that is true only of leaves that pass
+abbrev pub IsWithin : (Leaf → Bool) → Test → Type 0
+IsWithin shows test = (r : Row) (l : Leaf) → shows l ≡ false → test r l ≡ false
+
 -- nor any of some such attributes
-hidden : (attributes : List Attribute) (d : Leaf → Decision) (kind : Kind) (r : Row) (l : Leaf) → HasLeaf kind l → l.attribute ≡ r.unit.attribute → list_any (shows_some d kind) attributes ≡ false
-    → may_be_seen_of attributes d kind r l ≡ false
-hidden [] d kind r l there own none = refl
-hidden (a ∷ attributes) d kind r l there own none =
-    let parts = or_parts (shows_some d kind a) (list_any (shows_some d kind) attributes) none in
+hidden : (attributes : List Attribute) (shows : Leaf → Bool) (test : Test) (kind : Kind) (r : Row) (l : Leaf) → IsWithin shows test → HasLeaf kind l → l.attribute ≡ r.unit.attribute
+    → list_any (some_leaf shows kind) attributes ≡ false → of_some attributes test r l ≡ false
+hidden [] shows test kind r l within there own none = refl
+hidden (a ∷ attributes) shows test kind r l within there own none =
+    let parts = or_parts (some_leaf shows kind a) (list_any (some_leaf shows kind) attributes) none in
     elim (cases_Bool (sameb the_attribute r.unit.attribute a)) [
-      | inl t ↦ rw (t, hidden_leaf d kind a r l there (ap (λ (b : Attribute). sameb the_attribute b a) own ∙ t) parts.0) refl
-      | inr f ↦ rw f (hidden attributes d kind r l there own parts.1)
+      | inl t ↦ rw (t, within r l (hidden_leaf shows kind a l there (ap (λ (b : Attribute). sameb the_attribute b a) own ∙ t) parts.0)) refl
+      | inr f ↦ rw f (hidden attributes shows test kind r l within there own parts.1)
     ]
 
 no_fields : (p : Field → Bool) (fs : List Field) → All (λ f. p f ≡ false) fs → filter p fs ≡ []
@@ -234,11 +253,18 @@ none_left test kind (r ∷ rs) fails own =
     no_fields (λ f. test r f.leaf) r.fields (All-weaker (IsSoundField kind r.unit) (λ f. test r f.leaf ≡ false) (fails r) r.fields sound.own) in
     rw none (none_left test kind rs fails (All-tail (IsSoundRow kind) r rs own))
 
+-- of attributes of which no leaf passes nothing is left
+pub some_hidden : (attributes : List Attribute) (shows : Leaf → Bool) (test : Test) (c : Content) → IsPart c → IsWithin shows test → list_any (some_leaf shows c.kind) attributes ≡ false
+    → restricted (of_some attributes test) (rows c) ≡ []
+some_hidden attributes shows test c part within none =
+    none_left (of_some attributes test) c.kind (rows c) (λ r f own. hidden attributes shows test c.kind r f.leaf within own.1 (ap (λ (u : AttributeUnit). u.attribute) own.0) none) (sound_part c part).own
+
+pub none_there : (attributes : List Attribute) (shows : Leaf → Bool) (test : Test) (c : Content) → IsPart c → IsWithin shows test → list_any (some_leaf shows c.kind) attributes ≡ false
+    → rows (content c.kind c.id (restricted (of_some attributes test) (rows c))) ≡ []
+none_there attributes shows test c part within none =
+    rows_content c.kind c.id _ (restricted_sound c.kind (of_some attributes test) (rows c) (sound_part c part)) ∙ some_hidden attributes shows test c part within none
+
 -- of attributes of which nothing may be seen there are no rows in what may be seen of them
 pub none_shown : (attributes : List Attribute) (d : Leaf → Decision) (c : Content) → IsPart c → list_any (shows_some d c.kind) attributes ≡ false → rows (visible_attributes attributes d c) ≡ []
 unfolding visible_attributes
-none_shown attributes d c part none =
-    let test = may_be_seen_of attributes d c.kind in
-    let sound = sound_part c part in
-    rows_content c.kind c.id _ (restricted_sound c.kind test (rows c) sound)
-    ∙ none_left test c.kind (rows c) (λ r f own. hidden attributes d c.kind r f.leaf own.1 (ap (λ (u : AttributeUnit). u.attribute) own.0) none) sound.own
+none_shown attributes d c part none = none_there attributes (shows d c.kind) (may_be_seen d c.kind) c part (λ r l hides. hides) none

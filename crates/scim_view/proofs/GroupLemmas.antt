@@ -102,34 +102,40 @@ no_atom : (l : Leaf) (fs : List Field) → not (is_empty fs) ≡ false → atom_
 no_atom l [] h = refl
 no_atom l (f ∷ fs) h = cc
 
--- a text among the rows that are left
-text_passed : (keep : Leaf → Bool) (l : Leaf) (t : List ℕ) (rs : List Row) → keep l ≡ true
-    → list_any (λ (m : Row). is_text t (atom_in l m.fields)) (restricted (λ r k. keep k) rs) ≡ list_any (λ (m : Row). is_text t (atom_in l m.fields)) rs
-text_passed keep l t [] h = refl
-text_passed keep l t (r ∷ rs) h =
-    let ih = text_passed keep l t rs h in
-    let own = passed_atom keep l r.fields h in
-    elim (cases_Bool (has_fields (restricted_row (λ s k. keep k) r))) [
-      | inl f ↦ rw f (λ i. is_text t (own i) || ih i)
-      | inr f ↦
-          let none : atom_in l r.fields ≡ None = sym own ∙ no_atom l _ f in
-          rw f (ih ∙ sym (ap (λ o. is_text t o || list_any (λ (m : Row). is_text t (atom_in l m.fields)) rs) none))
+-- a text among the rows that are left stands in a row whose leaf is kept
+text_left : (test : Test) (l : Leaf) (t : List ℕ) (rs : List Row)
+    → list_any (λ (m : Row). is_text t (atom_in l m.fields)) (restricted test rs) ≡ list_any (λ (m : Row). test m l && is_text t (atom_in l m.fields)) rs
+text_left test l t [] = refl
+text_left test l t (r ∷ rs) =
+    let ih = text_left test l t rs in
+    elim (cases_Bool (test r l)) [
+      | inl h ↦
+          let own = passed_atom (test r) l r.fields h in
+          elim (cases_Bool (has_fields (restricted_row test r))) [
+            | inl f ↦ rw (f, h) (λ i. is_text t (own i) || ih i)
+            | inr f ↦
+                let none : atom_in l r.fields ≡ None = sym own ∙ no_atom l _ f in
+                rw (f, h) (ih ∙ sym (ap (λ o. is_text t o || list_any (λ (m : Row). test m l && is_text t (atom_in l m.fields)) rs) none))
+          ]
+      | inr h ↦
+          let own = dropped_atom (test r) l r.fields h in
+          elim (cases_Bool (has_fields (restricted_row test r))) [ inl f ↦ rw (f, h) (λ i. is_text t (own i) || ih i) | inr f ↦ rw (f, h) ih ]
     ]
 
-text_dropped : (keep : Leaf → Bool) (l : Leaf) (t : List ℕ) (rs : List Row) → keep l ≡ false
-    → list_any (λ (m : Row). is_text t (atom_in l m.fields)) (restricted (λ r k. keep k) rs) ≡ false
-text_dropped keep l t [] h = refl
-text_dropped keep l t (r ∷ rs) h =
-    let ih = text_dropped keep l t rs h in
-    let own = dropped_atom keep l r.fields h in
-    elim (cases_Bool (has_fields (restricted_row (λ s k. keep k) r))) [
-      | inl f ↦ rw f (λ i. is_text t (own i) || ih i)
-      | inr f ↦ rw f ih
-    ]
+-- a condition on all rows
+any_and : (b : Bool) (p : Row → Bool) (rs : List Row) → list_any (λ (m : Row). b && p m) rs ≡ b && list_any p rs
+any_and true p rs = refl
+any_and false p [] = refl
+any_and false p (r ∷ rs) = any_and false p rs
 
-text_left : (keep : Leaf → Bool) (l : Leaf) (t : List ℕ) (rs : List Row)
-    → list_any (λ (m : Row). is_text t (atom_in l m.fields)) (restricted (λ r k. keep k) rs) ≡ keep l && list_any (λ (m : Row). is_text t (atom_in l m.fields)) rs
-text_left keep l t rs = elim (cases_Bool (keep l)) [ inl h ↦ rw h (text_passed keep l t rs h) | inr h ↦ rw h (text_dropped keep l t rs h) ]
+-- what a test leaves of a group lists an id where a member with its text keeps its `value`
+pub lists_left : (test : Test) (id : List ℕ) (g : Content) → IsPart g
+    → lists id (content g.kind g.id (restricted test (rows g))) ≡ list_any (λ (m : Row). test m (leaf_at Members Value) && is_text (id_text id) (atom_in (leaf_at Members Value) m.fields)) (values (whole Members) (rows g))
+lists_left test id g valid =
+    let any : List Row → Bool = list_any (λ (m : Row). is_text (id_text id) (atom_in (leaf_at Members Value) m.fields)) in
+    ap (λ (rs : List Row). any (values (whole Members) rs)) (rows_content g.kind g.id _ (restricted_sound g.kind test (rows g) (sound_part g valid)))
+    ∙ ap any (values-restricted test (whole Members) (rows g))
+    ∙ text_left test (leaf_at Members Value) (id_text id) (values (whole Members) (rows g))
 
 -- the rows of what is visible
 pub visible_rows : (d : Leaf → Decision) (c : Content) → IsPart c → rows (visible_by d c) ≡ restricted (may_be_seen d c.kind) (rows c)
@@ -142,11 +148,10 @@ visible_kind d c = refl
 
 -- a group as it may be seen lists what it lists, where the values of its members may be seen
 pub lists_visible : (d : Leaf → Decision) (id : List ℕ) (g : Content) → IsPart g → lists id (visible_by d g) ≡ shows d g.kind (leaf_at Members Value) && lists id g
+unfolding visible_by
 lists_visible d id g valid =
-    let any : List Row → Bool = list_any (λ (m : Row). is_text (id_text id) (atom_in (leaf_at Members Value) m.fields)) in
-    ap (λ (rs : List Row). any (values (whole Members) rs)) (visible_rows d g valid)
-    ∙ ap any (values-restricted (may_be_seen d g.kind) (whole Members) (rows g))
-    ∙ text_left (shows d g.kind) (leaf_at Members Value) (id_text id) (values (whole Members) (rows g))
+    lists_left (may_be_seen d g.kind) id g valid
+    ∙ any_and (shows d g.kind (leaf_at Members Value)) (λ (m : Row). is_text (id_text id) (atom_in (leaf_at Members Value) m.fields)) (values (whole Members) (rows g))
 
 -- a unit that is a leaf has no other leaf
 pub one_leaf : (l m : Leaf) → is_multi_valued l.attribute ≡ false → unit_of m ≡ unit_of l → m ≡ l
