@@ -1,4 +1,5 @@
 pub mod View
+pub mod ValueViews
 pub mod Names
 pub mod Shown
 pub mod Sorted
@@ -6,4 +7,5 @@ pub mod Groups
 pub mod Indexes
 pub mod Listings
 pub mod Laws
+pub mod ValueViewLaws
 pub mod code

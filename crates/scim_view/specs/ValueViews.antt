@@ -1,0 +1,71 @@
+-- The part of a resource that a client sees if reading is decided value by value.
+use Rattle.std.specs.Prelude.{Bool, not, ◌&&◌, List, Option, None, Some, if◌then◌else◌}
+use Rattle.std.specs.List.{list_any}
+use denote.Enum.Bare.{sameb}
+use Rattle.scim_schema.specs.declared.Kind.{Kind}
+use Rattle.scim_schema.specs.declared.Leaf.{Leaf}
+use Rattle.scim_schema.specs.declared.Attribute.{Attribute}
+use Rattle.scim_schema.specs.declared.Attribute.TheVariants.{Id}
+use Rattle.scim_schema.specs.contracts.Attribute.{the_type as the_attribute}
+use Rattle.scim_schema.specs.Units.{simple}
+use Rattle.scim_schema.specs.Mutability.{is_write_only}
+use Rattle.scim_schema.specs.Table.{leaves}
+use Rattle.scim_cell.specs.Content.{Content}
+use Rattle.scim_cell.specs.Rows.{Row, Test, rows, restricted, content}
+use Rattle.scim_filter.specs.Truth.{truth_in_value}
+use Rattle.scim_policy.specs.declared.rules.Decision.{Decision}
+use Rattle.scim_policy.specs.Patterns.{PatternRule, decided_for, decisions_of, decide_in, pattern_rules, whole_decision}
+use Rattle.scim_view.specs.View.{Viewer, sees}
+
+-- the policy's decision on the client's read access to the leaf in one value, which is a row of the stored
+-- resource
+abbrev pub read_in : Viewer → Content → Row → Leaf → Decision
+read_in v c r l = decide_in v.policy v.client c l r
+
+-- the rules of the leaf's pattern for the client's reading of the resource
+abbrev pub read_rules : Viewer → Content → Leaf → List PatternRule
+read_rules v c l = pattern_rules v.policy v.client c l
+
+-- the decision that rules of patterns make on reading a leaf in one value
+abbrev pub decision_in : (Leaf → List PatternRule) → Row → Leaf → Decision
+decision_in rules r l = decided_for (λ t. truth_in_value t r) (rules l)
+
+-- whether the decisions on reading make a leaf of a kind visible in a value: reading it there is allowed, and the
+-- leaf isn't writeOnly
+abbrev pub may_be_seen_in : (Row → Leaf → Decision) → Kind → Test
+may_be_seen_in decision kind r l = not (is_write_only kind l) && (decision r l).allow
+
+-- whether some rule allows
+abbrev pub allows_some : List Decision → Bool
+allows_some ds = list_any (λ (d : Decision). d.allow) ds
+
+-- whether patterns may make some leaf of the attribute visible in a resource of the kind: some rule of the leaf's
+-- pattern allows, and the leaf isn't writeOnly; if true, no value need match the rule's filter
+abbrev pub shows_some_value : (Leaf → List Decision) → Kind → Attribute → Bool
+shows_some_value pattern kind a = list_any (λ l. sameb the_attribute l.attribute a && (not (is_write_only kind l) && allows_some (pattern l))) (leaves kind)
+
+-- the part of the resource that the decisions on reading its values make visible; a value without a visible cell
+-- is omitted, and later values move up to its position
+unfoldable pub visible_by_value : (Row → Leaf → Decision) → Content → Content
+visible_by_value decision c = content c.kind c.id (restricted (may_be_seen_in decision c.kind) (rows c))
+
+-- the part of the resource that the rules of patterns make visible; None if its `id` may not be read: no value
+-- filter covers `id`, so its pattern has one rule
+unfoldable pub view_by_value : (Leaf → List PatternRule) → Content → Option Content
+view_by_value rules c = if (whole_decision (decisions_of (rules (simple Id)))).allow then Some (visible_by_value (decision_in rules) c) else None
+
+-- whether the row belongs to one of the attributes, and the decisions on reading make the leaf visible in it
+abbrev pub may_be_seen_of_value : List Attribute → (Row → Leaf → Decision) → Kind → Test
+may_be_seen_of_value attributes decision kind r l = list_any (sameb the_attribute r.unit.attribute) attributes && may_be_seen_in decision kind r l
+
+-- the resource with only the cells of these attributes that the decisions on reading its values make visible
+unfoldable pub visible_attributes_by_value : List Attribute → (Row → Leaf → Decision) → Content → Content
+visible_attributes_by_value attributes decision c = content c.kind c.id (restricted (may_be_seen_of_value attributes decision c.kind) (rows c))
+
+-- the part of the resource that the client may see
+unfoldable pub visible_in_values : Viewer → Content → Content
+visible_in_values v c = visible_by_value (read_in v c) c
+
+-- the part of the resource that the client may see; None if it doesn't see that the resource exists
+abbrev pub view_in_values : Viewer → Content → Option Content
+view_in_values v c = if sees v c then Some (visible_in_values v c) else None
