@@ -46,7 +46,7 @@ none_in : (o : Option Misfit) (b : Bool) → is_some o ≡ not b → b ≡ true 
 none_in None b e fit = refl
 none_in (Some m) b e fit = cc
 
--- what is told of a rule: nothing if it decides, its entry otherwise
+-- the entry of a rule; None if it decides
 abbrev told : Bool → Earlier → Option Earlier
 told whole entry = if whole then None else Some entry
 
@@ -77,9 +77,9 @@ module _ (client : List ℕ) (op : Op) (c : Content) (l : Leaf) where
       let covered : covers_in c l r ≡ true = and_second _ _ whole in
       rw (speaks, covered) refl
 
-  -- ---- what is told of rules, by the first of them
+  -- ---- the entries of rules, by the first rule
 
-  -- what is told where the first decides
+  -- the entries if the first rule decides
   pub first_decides : (n : ℕ) (r : Rule) (rs : List Rule) → fits_wholly client op c l r ≡ true → told_from client op c l n (r ∷ rs) ≡ record { entries = []; decision = record { rule = n; allow = r.allow } }
   first_decides n r rs whole = rw whole refl
 

@@ -23,7 +23,7 @@ effect_word allow = if allow then codes "allow" else codes "deny"
 abbrev pub rule_line : ℕ → List ℕ → List ℕ
 rule_line number word = codes "rule " ++ decimal number ++ codes ": " ++ word ++ codes "\n"
 
--- what is said of a rule before the deciding one: the part that doesn't fit, or that it decides in part
+-- the words for a rule before the deciding one: the part that doesn't fit, or how it decides in part
 abbrev pub entry_word : Earlier → List ℕ
 entry_word (earlier.Misfit misfit) = misfit_word misfit
 entry_word (earlier.InPart allow) = effect_word allow ++ codes " in part"

@@ -83,7 +83,8 @@ impl<'p> ReadingRules<'p> {
     /// Targets are evaluated in the order of the rules, up to the first rule that matches and covers every leaf
     /// at all values.
     pub fn patterns(&self, alloc: Global, resource: &Resource) -> Result<Patterns<'p>, NoMemory>
-        ensures { IfOk result (λ ps. (l : Leaf) → rules_in ps l ≡ rules_by self.now resource.now l) }
+        ensures { IfOk result (λ ps. (l : Leaf)
+            → rules_in ps l ≡ rules_by self.now resource.now l) }
     {
         let mut patterns = Patterns::none(alloc);
         for numbered in &self.rules {

@@ -2,7 +2,7 @@ use Rattle.std.proofs.Common.{◌≡◌, ◌≤◌, length}
 use Rattle.scim_explain.proofs.ExplainLemmas.{Comes}
 use Rattle.scim_explain.proofs.explanations.explain.Given as goal
 
--- the entries so far, and what the rules from this one on decide and why, are what is told of all
+-- the entries so far, and the explanation by the rules from this one on, are the explanation by all rules
 abbrev pub invariant-loop-rule : goal.invariant-loop-rule
 invariant-loop-rule l =
     record {
