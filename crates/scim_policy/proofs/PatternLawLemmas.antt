@@ -22,7 +22,7 @@ use Rattle.scim_filter_grammar.specs.Tree.{Tree, Values, attribute_meant}
 use Rattle.scim_filter.specs.Truth.{rows_at, truth, truth_at, truth_in_value}
 use Rattle.scim_policy.specs.declared.rules.Decision.{Decision}
 use Rattle.scim_policy.specs.Rules.{FilteredPath, KindPaths, Rule}
-use Rattle.scim_policy.specs.Decide.{attribute_before, covers_in, covers_in_part, decide, filtered_on, first_of, fits, fits_wholly, is_after, speaks_of}
+use Rattle.scim_policy.specs.Decide.{attribute_before, covers_in, covers_in_part, covers_partly, decide, filtered_on, first_of, fits, fits_wholly, is_after, speaks_of}
 use Rattle.scim_policy.specs.Patterns.{PatternRule, decided_for, decisions_of, decide_at, decide_in, decision_of, filters_on, first_or_denied, pattern, pattern_rules, up_to_whole, whole_decision}
 use Rattle.scim_policy.proofs.PatternLemmas.{whole_first, partial_first}
 use Rattle.scim_policy.specs.PatternLaws.{is_plain, IsOneDecision, PlainPoliciesDecideOnce, PositionsAreDecidedByValue, IsAllowedWholly, WholesAllowEachValue}
@@ -35,7 +35,15 @@ and_second : (a b : Bool) → a && b ≡ true → b ≡ true
 and_second true b e = e
 and_second false b e = cc
 
--- ---- policies without value filters
+neither_first : (a b : Bool) → a || b ≡ false → a ≡ false
+neither_first true b e = e
+neither_first false b e = refl
+
+neither_second : (a b : Bool) → a || b ≡ false → b ≡ false
+neither_second true b e = cc
+neither_second false b e = e
+
+-- ---- patterns of one rule
 
 none_filtered : (k : Kind) (ps : List KindPaths) → list_all (λ (p : KindPaths). length p.filtered == 0) ps ≡ true → filtered_on k ps ≡ []
 none_filtered k [] plain = refl
@@ -48,33 +56,46 @@ none_filtered k (p ∷ ps) plain = elim (cases_Bool (sameb the_kind k p.kind)) [
     no_elements [] e = refl
     no_elements (f ∷ fs) e = absurd (omega (arith, eqb-true (length (f ∷ fs)) 0 e))
 
--- the rules that fit are those that cover the leaf at all values, and the first of them is the whole pattern
-plain_rules : (client : List ℕ) (c : Content) (l : Leaf) (n : ℕ) (rs : List Rule) → is_plain rs ≡ true
+plain_undivided : (c : Content) (l : Leaf) (rs : List Rule) → is_plain rs ≡ true → list_any (covers_partly Read c l) rs ≡ false
+plain_undivided c l [] plain = refl
+plain_undivided c l (r ∷ rs) plain =
+    let none : filtered_on c.kind r.paths ≡ [] = none_filtered c.kind r.paths (and_first _ _ plain) in
+    rw none (plain_undivided c l rs (and_second _ _ plain))
+
+-- no value filter covers a leaf of a single-valued attribute
+none_covers : (l : Leaf) (ps : List FilteredPath) → is_multi_valued l.attribute ≡ false → list_any (covers_in_part l) ps ≡ false
+none_covers l [] single = refl
+none_covers l (p ∷ ps) single = rw single (none_covers l ps single)
+
+pub single_undivided : (c : Content) (l : Leaf) (rs : List Rule) → is_multi_valued l.attribute ≡ false → list_any (covers_partly Read c l) rs ≡ false
+single_undivided c l [] single = refl
+single_undivided c l (r ∷ rs) single = rw (none_covers l (filtered_on c.kind r.paths) single) (single_undivided c l rs single)
+
+-- if no rule covers the leaf at some values, the first that covers it at all values is the whole pattern
+undivided_rules : (client : List ℕ) (c : Content) (l : Leaf) (n : ℕ) (rs : List Rule) → list_any (covers_partly Read c l) rs ≡ false
     → up_to_whole c l (filter (λ (numbered : ℕ × Rule). fits client Read c l numbered.1) (enumerate_from n rs))
     ≡ record { decision = first_of (filter (λ (numbered : ℕ × Rule). fits_wholly client Read c l numbered.1) (enumerate_from n rs)); filters = None } ∷ []
-plain_rules client c l n [] plain = refl
-plain_rules client c l n (r ∷ rs) plain =
-    let none : filtered_on c.kind r.paths ≡ [] = none_filtered c.kind r.paths (and_first _ _ plain) in
-    let ih = plain_rules client c l (n + 1) rs (and_second _ _ plain) in
+undivided_rules client c l n [] none = refl
+undivided_rules client c l n (r ∷ rs) none =
+    let own : covers_partly Read c l r ≡ false = neither_first _ _ none in
+    let ih = undivided_rules client c l (n + 1) rs (neither_second _ _ none) in
     elim (cases_Bool (speaks_of client Read c r)) [
       | inl speaks ↦ elim (cases_Bool (covers_in c l r)) [
-        | inl covered ↦ rw (speaks, covered) (whole_pattern c l (n, r) _ covered)
-        | inr apart ↦ rw (speaks, apart, none) ih
+        | inl covered ↦ rw (speaks, covered) (whole_first c l (n, r) _ covered)
+        | inr apart ↦ rw (speaks, apart, own) ih
       ]
       | inr silent ↦ rw silent ih
     ]
-  where
-    whole_pattern : (c : Content) (l : Leaf) (m : ℕ × Rule) (ns : List (ℕ × Rule)) → covers_in c l m.1 ≡ true → up_to_whole c l (m ∷ ns) ≡ record { decision = decision_of m; filters = None } ∷ []
-    whole_pattern c l m ns covered = rw covered refl
 
-plain_pattern : (policy : List Rule) (client : List ℕ) (c : Content) (l : Leaf) → is_plain policy ≡ true → pattern_rules policy client c l ≡ record { decision = decide policy client Read c l; filters = None } ∷ []
+pub undivided_pattern : (policy : List Rule) (client : List ℕ) (c : Content) (l : Leaf) → list_any (covers_partly Read c l) policy ≡ false
+    → pattern_rules policy client c l ≡ record { decision = decide policy client Read c l; filters = None } ∷ []
 unfolding pattern_rules decide
-plain_pattern policy client c l plain = plain_rules client c l 1 policy plain
+undivided_pattern policy client c l none = undivided_rules client c l 1 policy none
 
 pub plain_once : PlainPoliciesDecideOnce
 unfolding decide_at decide_in
 plain_once policy client c l plain =
-    let rules = plain_pattern policy client c l plain in
+    let rules = undivided_pattern policy client c l (plain_undivided c l policy plain) in
     record {
       one = ap decisions_of rules;
       positions = λ k. ap (decided_for (λ t. truth_at t k (rows c))) rules;
