@@ -1,17 +1,15 @@
 -- What is seen if reading is decided value by value.
 use Rattle.std.proofs.Common.{◌≡◌, refl, sym, ◌∙◌, ap, ℕ, ◌+◌, Bool, true, false, ◌&&◌, ◌||◌, List, [], ◌∷◌, filter, inl, inr}
 use Rattle.std.specs.Prelude.{not, None, Some, if◌then◌else◌}
-use Rattle.std.specs.List.{list_any, enumerate_from}
+use Rattle.std.specs.List.{list_any}
 use Rattle.std.proofs.lemmas.Bool.{cases_Bool, or_parts}
 use Rattle.std.proofs.Math.Path.{fun_ext}
 use denote.Enum.Bare.{sameb}
 use Rattle.scim_schema.specs.declared.Kind.{Kind}
-use Rattle.scim_schema.specs.declared.Op.TheVariants.{Read}
 use Rattle.scim_schema.specs.declared.Leaf.{Leaf}
 use Rattle.scim_schema.specs.declared.Attribute.{Attribute}
 use Rattle.scim_schema.specs.declared.Attribute.TheVariants.{Id}
 use Rattle.scim_schema.specs.contracts.Attribute.{the_type as the_attribute}
-use Rattle.scim_schema.specs.Characteristics.{is_multi_valued}
 use Rattle.scim_schema.specs.Mutability.{is_write_only}
 use Rattle.scim_schema.specs.Table.{leaves}
 use Rattle.scim_schema.specs.Units.{simple}
@@ -21,11 +19,9 @@ use Rattle.scim_value.proofs.Facts.{rows_content, restricted_sound, sound_part}
 use Rattle.scim_filter_grammar.specs.Tree.{Tree}
 use Rattle.scim_filter.specs.Truth.{truth_in_value}
 use Rattle.scim_policy.specs.declared.rules.Decision.{Decision}
-use Rattle.scim_policy.specs.Rules.{FilteredPath, Rule}
-use Rattle.scim_policy.specs.Decide.{covers_in, covers_in_part, decide, filtered_on, first_of, fits, fits_wholly, speaks_of}
-use Rattle.scim_policy.specs.Patterns.{PatternRule, decided_for, decisions_of, decide_in, decision_of, is_for_value, pattern_rules, up_to_whole, whole_decision}
+use Rattle.scim_policy.specs.Patterns.{PatternRule, decided_for, decisions_of, decide_in, is_for_value, whole_decision}
 use Rattle.scim_policy.specs.PatternLaws.{is_plain}
-use Rattle.scim_policy.proofs.Facts.{kept_rows, plain_once, wholes_allow}
+use Rattle.scim_policy.proofs.Facts.{kept_rows, plain_once, single_undivided, undivided_pattern, wholes_allow}
 use Rattle.scim_view.specs.View.{Viewer, read_decision, sees, shows_some, visible, visible_by, visible_attributes}
 use Rattle.scim_view.specs.ValueViews.{read_in, read_rules, decision_in, may_be_seen_in, allows_some, shows_some_value, visible_by_value, view_by_value, visible_attributes_by_value, visible_in_values, view_in_values}
 use Rattle.scim_view.specs.ValueViewLaws.{read_pattern, PlainPoliciesShowLeaves, PatternsDecideOnId, DeniedLeavesAreUnseen, DeniedAttributesAreUnseen, AllowedLeavesAreSeen}
@@ -91,36 +87,11 @@ single_attributes attributes d rules c single =
 
 -- ---- the decision on `id`
 
--- no value filter covers a leaf of a single-valued attribute
-none_partly : (l : Leaf) (ps : List FilteredPath) → is_multi_valued l.attribute ≡ false → list_any (covers_in_part l) ps ≡ false
-none_partly l [] single = refl
-none_partly l (p ∷ ps) single = rw single (none_partly l ps single)
-
--- so its pattern has one rule
-single_rules : (client : List ℕ) (c : Content) (l : Leaf) (n : ℕ) (rs : List Rule) → is_multi_valued l.attribute ≡ false
-    → up_to_whole c l (filter (λ (numbered : ℕ × Rule). fits client Read c l numbered.1) (enumerate_from n rs))
-    ≡ record { decision = first_of (filter (λ (numbered : ℕ × Rule). fits_wholly client Read c l numbered.1) (enumerate_from n rs)); filters = None } ∷ []
-single_rules client c l n [] single = refl
-single_rules client c l n (r ∷ rs) single =
-    let none = none_partly l (filtered_on c.kind r.paths) single in
-    let ih = single_rules client c l (n + 1) rs single in
-    elim (cases_Bool (speaks_of client Read c r)) [
-      | inl speaks ↦ elim (cases_Bool (covers_in c l r)) [
-        | inl covered ↦ rw (speaks, covered) (whole_pattern c l (n, r) _ covered)
-        | inr apart ↦ rw (speaks, apart, none) ih
-      ]
-      | inr silent ↦ rw silent ih
-    ]
-  where
-    whole_pattern : (c : Content) (l : Leaf) (m : ℕ × Rule) (ns : List (ℕ × Rule)) → covers_in c l m.1 ≡ true → up_to_whole c l (m ∷ ns) ≡ record { decision = decision_of m; filters = None } ∷ []
-    whole_pattern c l m ns covered = rw covered refl
-
 whole_one : (d : Decision) → whole_decision (d ∷ []) ≡ d
 whole_one d = elim (cases_Bool d.allow) [ inl t ↦ rw t refl | inr f ↦ rw f refl ]
 
 id_decision : (v : Viewer) (c : Content) → whole_decision (decisions_of (read_rules v c (simple Id))) ≡ read_decision v c (simple Id)
-unfolding pattern_rules decide
-id_decision v c = ap (λ (rs : List PatternRule). whole_decision (decisions_of rs)) (single_rules v.client c (simple Id) 1 v.policy refl) ∙ whole_one (read_decision v c (simple Id))
+id_decision v c = ap (λ (rs : List PatternRule). whole_decision (decisions_of rs)) (undivided_pattern v.policy v.client c (simple Id) (single_undivided c (simple Id) v.policy refl)) ∙ whole_one (read_decision v c (simple Id))
 
 pub patterns_decide_on_id : PatternsDecideOnId
 unfolding view_by_value visible_in_values decide_in sees
