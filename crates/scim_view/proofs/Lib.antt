@@ -7,6 +7,7 @@ pub mod GroupLemmas
 pub mod SeenRowsLemmas
 pub mod AttributeLemmas
 pub mod ValueViewLemmas
+pub mod UncoveredLemmas
 pub mod NarrowedLemmas
 pub mod MemberLemmas
 pub mod IndexLemmas

@@ -8,13 +8,16 @@ use denote.Enum.Bare.{sameb}
 use Rattle.scim_schema.specs.declared.Kind.{Kind}
 use Rattle.scim_schema.specs.declared.Leaf.{Leaf}
 use Rattle.scim_schema.specs.declared.Attribute.{Attribute}
-use Rattle.scim_schema.specs.declared.Attribute.TheVariants.{Id}
+use Rattle.scim_schema.specs.declared.Attribute.TheVariants.{Id, Members}
 use Rattle.scim_schema.specs.contracts.Attribute.{the_type as the_attribute}
 use Rattle.scim_schema.specs.Mutability.{is_write_only}
 use Rattle.scim_schema.specs.Table.{leaves}
-use Rattle.scim_schema.specs.Units.{simple}
+use Rattle.scim_schema.specs.declared.SubAttribute.TheVariants.{Value}
+use Rattle.scim_schema.specs.Units.{leaf_at, simple, whole}
 use Rattle.scim_cell.specs.Content.{Content, IsPart}
-use Rattle.scim_cell.specs.Rows.{Row, rows, restricted, attribute_rows}
+use Rattle.scim_cell.specs.Ids.{id_text}
+use Rattle.scim_cell.specs.Rows.{Row, rows, restricted, attribute_rows, atom_in, values}
+use Rattle.scim_value.specs.Members.{is_text, lists}
 use Rattle.scim_value.proofs.Facts.{rows_content, restricted_sound, sound_part}
 use Rattle.scim_filter_grammar.specs.Tree.{Tree}
 use Rattle.scim_filter.specs.Truth.{truth_in_value}
@@ -25,6 +28,7 @@ use Rattle.scim_policy.proofs.Facts.{kept_rows, plain_once, single_undivided, un
 use Rattle.scim_view.specs.View.{Viewer, read_decision, sees, shows_some, visible, visible_by, visible_attributes}
 use Rattle.scim_view.specs.ValueViews.{read_in, read_rules, decision_in, may_be_seen_in, allows_some, shows_some_value, visible_by_value, view_by_value, visible_attributes_by_value, visible_in_values, view_in_values}
 use Rattle.scim_view.specs.ValueViewLaws.{read_pattern, PlainPoliciesShowLeaves, PatternsDecideOnId, DeniedLeavesAreUnseen, DeniedAttributesAreUnseen, AllowedLeavesAreSeen}
+use Rattle.scim_view.proofs.GroupLemmas.{lists_left}
 use Rattle.scim_view.proofs.AttributeLemmas.{some_left, some_hidden, none_there}
 
 or_false : (b : Bool) → (b || false) ≡ b
@@ -87,7 +91,7 @@ single_attributes attributes d rules c single =
 
 -- ---- the decision on `id`
 
-whole_one : (d : Decision) → whole_decision (d ∷ []) ≡ d
+pub whole_one : (d : Decision) → whole_decision (d ∷ []) ≡ d
 whole_one d = elim (cases_Bool d.allow) [ inl t ↦ rw t refl | inr f ↦ rw f refl ]
 
 id_decision : (v : Viewer) (c : Content) → whole_decision (decisions_of (read_rules v c (simple Id))) ≡ read_decision v c (simple Id)
@@ -162,3 +166,11 @@ denied_attributes v c a part none = record {
 
 pub allowed_leaves : AllowedLeavesAreSeen
 allowed_leaves v c l allowed open' r = rw (open', (wholes_allow v.policy v.client c l).values allowed r) refl
+
+-- ---- members
+
+-- a group as it is seen lists an id where it has a member with its text whose `value` may be seen
+pub lists_in_values : (d : Row → Leaf → Decision) (id : List ℕ) (g : Content) → IsPart g
+    → lists id (visible_by_value d g) ≡ list_any (λ (m : Row). may_be_seen_in d g.kind m (leaf_at Members Value) && is_text (id_text id) (atom_in (leaf_at Members Value) m.fields)) (values (whole Members) (rows g))
+unfolding visible_by_value
+lists_in_values d id g valid = lists_left (may_be_seen_in d g.kind) id g valid

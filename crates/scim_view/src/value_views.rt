@@ -5,7 +5,8 @@ ghost use denote.Enum.Bare.{sameb};
 ghost use Rattle.scim_schema.specs.contracts.Attribute.{the_type as the_attribute};
 ghost use Rattle.scim_schema.specs.declared.Leaf.{Leaf};
 ghost use Rattle.scim_schema.specs.Mutability.{is_write_only};
-ghost use Rattle.scim_policy.specs.Patterns.{decisions_of};
+ghost use Rattle.scim_schema.specs.Units.{simple};
+ghost use Rattle.scim_policy.specs.Patterns.{decisions_of, whole_decision};
 ghost use Rattle.scim_policy.specs.PatternTable.{last_decision, rules_in};
 ghost use Rattle.scim_view.specs.View.{viewer_of};
 ghost use Rattle.scim_view.specs.ValueViews as spec;
@@ -201,11 +202,20 @@ fn view_by_value(
 ) -> Result<Option<Part>, NoMemory>
     ensures { IfOk result (λ o. o ≡ spec.view_by_value (rules_in patterns.now) resource.now) }
 {
-    if patterns.whole(Leaf::simple(Attribute::Id)).allow {
+    if shows_id(patterns) {
         Ok(Some(visible_by_value(alloc, patterns, resource)?))
     } else {
         Ok(None)
     }
+}
+
+/// Whether `patterns` let the client read the `id`, so that it sees that the resource exists. No value filter
+/// covers the `id`: its pattern has one rule.
+fn shows_id(patterns: &Patterns<'_>) -> bool
+    ensures { result ≡ (whole_decision (decisions_of (rules_in patterns.now
+        (simple Attribute.Id)))).allow }
+{
+    patterns.last(Leaf::simple(Attribute::Id)).allow
 }
 
 /// Returns the part of the resource that `patterns` let the client see.
