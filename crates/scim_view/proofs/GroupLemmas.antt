@@ -168,41 +168,51 @@ passed_some keep l (f ∷ fs) h a full =
     let k : keep f.leaf ≡ true = ap keep (All-head (λ (f : Field). f.leaf ≡ l) f fs a) ∙ h in
     rw k refl
 
--- the first cell of a leaf that is a unit of its own, where it passes a test and where it doesn't
-passed_cell : (kind : Kind) (keep : Leaf → Bool) (l : Leaf) (rs : List Row) → is_multi_valued l.attribute ≡ false → keep l ≡ true → All (λ r. has_fields r ≡ true) rs → All (IsSoundRow kind) rs
-    → atom_at l zero (restricted (λ r k. keep k) (values (unit_of l) rs)) ≡ atom_at l zero (values (unit_of l) rs)
-passed_cell kind keep l [] n h full own = refl
-passed_cell kind keep l (r ∷ rs) n h full own =
+-- the first cell of a leaf that is a unit of its own, where each row keeps the leaf and where none does
+passed_cell : (kind : Kind) (test : Test) (l : Leaf) (rs : List Row) → is_multi_valued l.attribute ≡ false → ((r : Row) → test r l ≡ true) → All (λ r. has_fields r ≡ true) rs → All (IsSoundRow kind) rs
+    → atom_at l zero (restricted test (values (unit_of l) rs)) ≡ atom_at l zero (values (unit_of l) rs)
+passed_cell kind test l [] n h full own = refl
+passed_cell kind test l (r ∷ rs) n h full own =
     let first = All-head (IsSoundRow kind) r rs own in
     elim (cases_Bool (is_eq (unit_cmp r.unit (unit_of l)))) [
       | inl t ↦
           let one : All (λ f. f.leaf ≡ l) r.fields = All-weaker (IsSoundField kind r.unit) (λ f. f.leaf ≡ l) (λ f s. one_leaf l f.leaf n (s.0 ∙ unit_same r.unit (unit_of l) t)) r.fields first.own in
-          let some : has_fields (restricted_row (λ s k. keep k) r) ≡ true = passed_some keep l r.fields h one (All-head (λ (r : Row). has_fields r ≡ true) r rs full) in
-          rw (t, some) (passed_atom keep l r.fields h)
-      | inr t ↦ rw t (passed_cell kind keep l rs n h (All-tail (λ (r : Row). has_fields r ≡ true) r rs full) (All-tail (IsSoundRow kind) r rs own))
+          let some : has_fields (restricted_row test r) ≡ true = passed_some (test r) l r.fields (h r) one (All-head (λ (r : Row). has_fields r ≡ true) r rs full) in
+          rw (t, some) (passed_atom (test r) l r.fields (h r))
+      | inr t ↦ rw t (passed_cell kind test l rs n h (All-tail (λ (r : Row). has_fields r ≡ true) r rs full) (All-tail (IsSoundRow kind) r rs own))
     ]
 
-dropped_cell : (keep : Leaf → Bool) (l : Leaf) (rs : List Row) → keep l ≡ false → atom_at l zero (restricted (λ r k. keep k) rs) ≡ None
-dropped_cell keep l [] h = refl
-dropped_cell keep l (r ∷ rs) h =
-    elim (cases_Bool (has_fields (restricted_row (λ s k. keep k) r))) [
-      | inl f ↦ rw f (dropped_atom keep l r.fields h)
-      | inr f ↦ rw f (dropped_cell keep l rs h)
+dropped_cell : (test : Test) (l : Leaf) (rs : List Row) → ((r : Row) → test r l ≡ false) → atom_at l zero (restricted test rs) ≡ None
+dropped_cell test l [] h = refl
+dropped_cell test l (r ∷ rs) h =
+    elim (cases_Bool (has_fields (restricted_row test r))) [
+      | inl f ↦ rw f (dropped_atom (test r) l r.fields (h r))
+      | inr f ↦ rw f (dropped_cell test l rs h)
     ]
 
-visible_name : (d : Leaf → Decision) (g : Content) → IsPart g → display_of (visible_by d g) ≡ text_in (atom_at (simple DisplayName) zero (restricted (may_be_seen d g.kind) (values (unit_of (simple DisplayName)) (rows g))))
-visible_name d g valid =
-    ap (λ (rs : List Row). text_in (cell_at (simple DisplayName) zero rs)) (visible_rows d g valid)
-    ∙ ap (λ (rs : List Row). text_in (atom_at (simple DisplayName) zero rs)) (values-restricted (may_be_seen d g.kind) (unit_of (simple DisplayName)) (rows g))
+-- the name in what a test leaves of a group
+left_name : (test : Test) (g : Content) → IsPart g
+    → display_of (content g.kind g.id (restricted test (rows g))) ≡ text_in (atom_at (simple DisplayName) zero (restricted test (values (unit_of (simple DisplayName)) (rows g))))
+left_name test g valid =
+    ap (λ (rs : List Row). text_in (cell_at (simple DisplayName) zero rs)) (rows_content g.kind g.id _ (restricted_sound g.kind test (rows g) (sound_part g valid)))
+    ∙ ap (λ (rs : List Row). text_in (atom_at (simple DisplayName) zero rs)) (values-restricted test (unit_of (simple DisplayName)) (rows g))
+
+pub kept_name : (test : Test) (g : Content) → IsPart g → ((r : Row) → test r (simple DisplayName) ≡ true) → display_of (content g.kind g.id (restricted test (rows g))) ≡ display_of g
+kept_name test g valid h =
+    let sound = sound_part g valid in
+    left_name test g valid ∙ ap text_in (passed_cell g.kind test (simple DisplayName) (rows g) refl h sound.full sound.own)
+
+pub no_name : (test : Test) (g : Content) → IsPart g → ((r : Row) → test r (simple DisplayName) ≡ false) → display_of (content g.kind g.id (restricted test (rows g))) ≡ None
+no_name test g valid h = left_name test g valid ∙ ap text_in (dropped_cell test (simple DisplayName) (values (unit_of (simple DisplayName)) (rows g)) h)
 
 -- the name of a group as it may be seen
 pub shown_name : (d : Leaf → Decision) (g : Content) → IsPart g → shows d g.kind (simple DisplayName) ≡ true → display_of (visible_by d g) ≡ display_of g
-shown_name d g valid h =
-    let sound = sound_part g valid in
-    visible_name d g valid ∙ ap text_in (passed_cell g.kind (shows d g.kind) (simple DisplayName) (rows g) refl h sound.full sound.own)
+unfolding visible_by
+shown_name d g valid h = kept_name (may_be_seen d g.kind) g valid (λ r. h)
 
 pub hidden_name : (d : Leaf → Decision) (g : Content) → IsPart g → shows d g.kind (simple DisplayName) ≡ false → display_of (visible_by d g) ≡ None
-hidden_name d g valid h = visible_name d g valid ∙ ap text_in (dropped_cell (shows d g.kind) (simple DisplayName) (values (unit_of (simple DisplayName)) (rows g)) h)
+unfolding visible_by
+hidden_name d g valid h = no_name (may_be_seen d g.kind) g valid (λ r. h)
 
 -- a value of `groups` is sound, and so is what is left of it
 membership_sound : (base id : List ℕ) (name : Option (List ℕ)) → IsSoundRow User (membership_of base id name)
