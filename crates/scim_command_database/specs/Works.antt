@@ -80,6 +80,7 @@ pub record ImportsUsers (base users : List ℕ) (old new : State) (done : Result
   pub empty : HasCleanDisk new → OnOk done (old.now.schema ≡ no_schema)
   pub users_at : (n : ℕ) → done ≡ Err (Users n) → IsDamagedAt base users n
   pub not_empty : HasCleanDisk new → done ≡ Err (Database NotEmpty) → old.now.schema ≢ no_schema
+  pub valid : done ≡ Err (Database NotEmpty) → (resources : List Content) × IsDocumentsText base users resources
   pub undone : HasCleanDisk new → OnErr done (Rests old new)
   pub crash : Survives old new (LeavesUsers base users old)
   pub is_open : HasCleanDisk new → OnOk done (IsTrue new.is_open)

@@ -48,6 +48,8 @@ pub fn import<S: Alter>(
     ensures not_empty { HasCleanDisk (state S.Store connection.new)
         → result ≡ Err (RunFault.Database DatabaseFault.NotEmpty)
         → (state S.Store connection.old).now.schema ≢ no_schema }
+    ensures valid { result ≡ Err (RunFault.Database DatabaseFault.NotEmpty)
+        → (resources : List Content) × IsDocumentsText base.now users.now resources }
     ensures undone { HasCleanDisk (state S.Store connection.new)
         → OnErr result (Rests (state S.Store connection.old) (state S.Store connection.new)) }
     ensures crash { Survives (state S.Store connection.old) (state S.Store connection.new)
