@@ -2,6 +2,7 @@ pub mod Inputs
 pub mod Options
 pub mod Once
 pub mod Check
+pub mod Commands
 pub mod Faults
 pub mod code
 pub mod EventFiles

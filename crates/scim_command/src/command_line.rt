@@ -1,4 +1,7 @@
 //! The command line: the commands and their options.
+ghost use Rattle.std.specs.Prelude.{◌≡◌};
+ghost use Rattle.scim_command.specs.Commands.{command_name, command_named, commands};
+
 use crate::option_defaults::{
     DEFAULT_AT, DEFAULT_BASE, DEFAULT_COUNT, DEFAULT_FIRST, DEFAULT_FROM, DEFAULT_PORT,
 };
@@ -30,22 +33,53 @@ pub enum CommandName {
 }
 
 impl CommandName {
-    /// Returns the command with this name, if any.
-    pub fn named(name: &str) -> Option<CommandName> {
-        for text in COMMANDS {
-            if text.name == name {
-                return Some(text.command);
-            }
+    /// Returns all commands.
+    fn all() -> &'static [CommandName]
+        ensures { result.now ≡ commands }
+    {
+        &[
+            CommandName::Once,
+            CommandName::Check,
+            CommandName::Serve,
+            CommandName::Replay,
+            CommandName::Explain,
+            CommandName::Import,
+            CommandName::Export,
+            CommandName::Audit,
+        ]
+    }
+
+    /// Returns the name of the command.
+    fn name(self) -> &'static str
+        ensures { result.now ≡ command_name self }
+    {
+        match self {
+            CommandName::Once => "once",
+            CommandName::Check => "check",
+            CommandName::Serve => "serve",
+            CommandName::Replay => "replay",
+            CommandName::Explain => "explain",
+            CommandName::Import => "import",
+            CommandName::Export => "export",
+            CommandName::Audit => "audit",
         }
-        None
+    }
+
+    /// Returns the command with this name, if any.
+    pub fn named(name: &str) -> Option<CommandName>
+        ensures { result ≡ command_named name.now }
+    {
+        CommandName::all()
+            .iter()
+            .copied()
+            .find(|command| name == command.name())
     }
 }
 
-/// A command with its name, help text and options.
+/// A command with its help text and options.
 #[derive(Clone, Copy)]
 struct CommandText {
     command: CommandName,
-    name: &'static str,
     about: &'static str,
     options: &'static [OptionText],
 }
@@ -110,7 +144,6 @@ const BASE: OptionText = OptionText {
 const COMMANDS: [CommandText; 8] = [
     CommandText {
         command: CommandName::Once,
-        name: "once",
         about: "Answer one HTTP request from standard input over a users file",
         options: &[
             POLICY,
@@ -131,7 +164,6 @@ const COMMANDS: [CommandText; 8] = [
     },
     CommandText {
         command: CommandName::Check,
-        name: "check",
         about: "Check a policy file",
         options: &[
             POLICY,
@@ -144,7 +176,6 @@ const COMMANDS: [CommandText; 8] = [
     },
     CommandText {
         command: CommandName::Serve,
-        name: "serve",
         about: "Serve a database over HTTP on 127.0.0.1",
         options: &[
             POLICY,
@@ -195,7 +226,6 @@ const COMMANDS: [CommandText; 8] = [
     },
     CommandText {
         command: CommandName::Replay,
-        name: "replay",
         about: "Replay recorded connection events over a users file and print the output to each connection",
         options: &[
             POLICY,
@@ -211,7 +241,6 @@ const COMMANDS: [CommandText; 8] = [
     },
     CommandText {
         command: CommandName::Explain,
-        name: "explain",
         about: "Explain why the policy allows or denies an operation on a stored resource",
         options: &[
             POLICY,
@@ -241,19 +270,16 @@ const COMMANDS: [CommandText; 8] = [
     },
     CommandText {
         command: CommandName::Import,
-        name: "import",
         about: "Import a users file into an empty or new database",
         options: &[DATABASE, USERS],
     },
     CommandText {
         command: CommandName::Export,
-        name: "export",
         about: "Export the resources of a database as a users file",
         options: &[DATABASE],
     },
     CommandText {
         command: CommandName::Audit,
-        name: "audit",
         about: "Print rows of the audit, one per line",
         options: &[
             DATABASE,
@@ -297,7 +323,7 @@ fn with<'a>(
 
 /// Builds a command with its options.
 fn command_of<'a>(alloc: Global, text: CommandText) -> Result<Command<'a>, AllocError> {
-    let mut command = Command::new(alloc, text.name).about(text.about);
+    let mut command = Command::new(alloc, text.command.name()).about(text.about);
     for option in text.options {
         command = command.arg(option_of(alloc, *option))?;
     }
