@@ -52,6 +52,16 @@ IsOfPath path _ = ⊥
 abbrev pub IsOfFile : FileKind → List ℕ → CommandFault → Type 0
 IsOfFile kind path fault = IsOfPath path fault ⊎ (fault ≡ Run (of_no_text kind))
 
+-- the policy file at this path can't be read, isn't UTF-8 or isn't valid, or memory ran out
+abbrev pub IsOfPolicyAt : List ℕ → CommandFault → Type 0
+IsOfPolicyAt path (Run (Policy rule cause)) = Unit {0}
+IsOfPolicyAt path fault = IsOfPath path fault
+
+-- the token file at this path can't be read, isn't UTF-8 or isn't valid, or memory ran out
+abbrev pub IsOfTokensAt : List ℕ → CommandFault → Type 0
+IsOfTokensAt path (Run (Tokens n)) = Unit {0}
+IsOfTokensAt path fault = IsOfPath path fault
+
 -- the faults of a command that its options name files for: an invalid option, a file that can't be read, and
 -- the faults that satisfy `Is`
 abbrev pub IsOverFiles : (RunFault → Type 0) → CommandFault → Type 0

@@ -1,7 +1,7 @@
 //! Reads the files that a command's options name.
 ghost use Rattle.std.specs.Prelude.{◌≡◌, ℕ, List, Ok, IfOk, IfErr};
 ghost use Rattle.scim_policy_file.specs.File.{policy_of};
-ghost use Rattle.scim_command.specs.Faults.{IsOfFile, IsOfPath, IsOverFiles, of_no_text};
+ghost use Rattle.scim_command.specs.Faults.{IsOfFile, IsOfPath, IsOfPolicyAt, IsOverFiles, of_no_text};
 ghost use Rattle.scim_command.specs.code.Exits.{IsOfFiles};
 ghost use Rattle.scim_command.specs.declared.command_faults.CommandFault.{CommandFault};
 
@@ -77,7 +77,8 @@ pub fn find_file(rt: &(impl Files + AllocGlobal), path: &str) -> Result<(), Comm
 /// Fails with `CannotRead` if the file can't be read, and with `Policy` if it isn't UTF-8 or isn't a valid
 /// policy.
 pub fn policy_at(rt: &(impl Files + AllocGlobal), path: &str) -> Result<Policy, CommandFault>
-    ensures { IfOk result (λ policy. (text : List ℕ) × (policy_of text ≡ Ok policy)) }
+    ensures policy { IfOk result (λ policy. (text : List ℕ) × (policy_of text ≡ Ok policy)) }
+    ensures fault { IfErr result (IsOfPolicyAt path.now) }
 {
     let text = read_file(rt, FileKind::Policy, path)?;
     match read_policy(rt.alloc(), text.as_str()) {

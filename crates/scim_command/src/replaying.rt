@@ -4,7 +4,7 @@ ghost use Rattle.std.specs.Io.KnownBytes.{Appends};
 ghost use Rattle.scim_token.specs.TokenFile.{Entry, entries_in};
 ghost use Rattle.scim_token.specs.Tokens.{Knows};
 ghost use Rattle.scim_wire.specs.Streams.{AppendsFront};
-ghost use Rattle.scim_command.specs.Faults.{IsOverFiles};
+ghost use Rattle.scim_command.specs.Faults.{IsOfTokensAt, IsOverFiles};
 ghost use Rattle.scim_command.specs.Options.{Has};
 ghost use Rattle.scim_command.specs.Replays.{Replays, IsReplayFault};
 ghost use Rattle.scim_command.specs.code.ReplayExits.{IsOfRecording};
@@ -132,8 +132,9 @@ pub fn replay_over_files<W: Write>(
 /// Fails with `CannotRead` if the file can't be read, and with `Tokens` if it isn't UTF-8 or a line is
 /// invalid.
 pub fn tokens_at(rt: &(impl Files + AllocGlobal), path: &str) -> Result<Tokens, CommandFault>
-    ensures { IfOk result (λ tokens. (text : List ℕ) × (entries : List Entry)
+    ensures tokens { IfOk result (λ tokens. (text : List ℕ) × (entries : List Entry)
         × (entries_in text ≡ Ok entries) × Knows entries tokens) }
+    ensures fault { IfErr result (IsOfTokensAt path.now) }
 {
     let text = read_file(rt, FileKind::Tokens, path)?;
     match read_tokens(rt.alloc(), text.as_str()) {
