@@ -1,4 +1,7 @@
 //! Events of connections, and the hub's outputs for them.
+ghost use Rattle.std.specs.Prelude.{◌≡◌};
+ghost use Rattle.uuid.specs.Parts.{zero_bytes};
+
 use scim_cell::{Id, id_of};
 use scim_text::{Moment, NoMemory};
 use std::alloc::AllocFailed;
@@ -18,7 +21,10 @@ pub struct Stamp {
 impl Stamp {
     /// Returns a stamp for the events `Joined` and `Left`, which don't use it: the first moment and the nil
     /// id.
-    pub fn unused() -> Stamp {
+    pub fn unused() -> Stamp
+        ensures moment { result.moment ≡ 0 }
+        ensures first { result.first ≡ zero_bytes }
+    {
         Stamp {
             moment: Moment::new(0).unwrap(),
             first: id_of(Uuid::nil()),
