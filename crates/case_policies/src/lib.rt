@@ -4,6 +4,7 @@
 
 mod access_calls;
 mod explain_calls;
+mod pattern_calls;
 mod policy_calls;
 mod query_calls;
 mod view_calls;
@@ -16,6 +17,9 @@ pub use view_calls::wanted;
 /// Returns the result of the case's call, or `None` if it isn't a call of this crate.
 pub fn answer(case: &Case<'_>, call: &str) -> Option<Result<String, CaseFault>> {
     if let Some(found) = policy_calls::answer(case, call) {
+        return Some(found);
+    }
+    if let Some(found) = pattern_calls::answer(case, call) {
         return Some(found);
     }
     if let Some(found) = access_calls::answer(case, call) {

@@ -231,7 +231,12 @@ fn decisions_text(case: &Case<'_>, decisions: &Decisions) -> Result<String, Case
     Ok(text)
 }
 
-fn push_decision(alloc: Global, decision: Decision, text: &mut String) -> Result<(), CaseFault> {
+/// Appends the text of a decision, behind `; ` if it isn't the first.
+pub(crate) fn push_decision(
+    alloc: Global,
+    decision: Decision,
+    text: &mut String,
+) -> Result<(), CaseFault> {
     if !text.is_empty() {
         text.push_str("; ")?;
     }

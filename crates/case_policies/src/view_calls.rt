@@ -114,7 +114,7 @@ fn cells_text(alloc: Global, part: &Part) -> Result<String, CaseFault> {
 }
 
 /// Returns the cells of the visible part, or `unseen` if the client doesn't see the resource.
-fn seen_text(alloc: Global, part: Option<Part>) -> Result<String, CaseFault> {
+pub(crate) fn seen_text(alloc: Global, part: Option<Part>) -> Result<String, CaseFault> {
     match part {
         Some(part) => cells_text(alloc, &part),
         None => said(alloc, "unseen"),
