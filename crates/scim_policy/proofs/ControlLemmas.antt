@@ -1,9 +1,9 @@
 -- What a policy decides rests on the kind, and on the values that its targets name.
-use Rattle.std.proofs.Common.{◌≡◌, refl, sym, ap, ap₂, ◌∙◌, ℕ, ◌+◌, Bool, true, false, not, List, [], ◌∷◌, ◌++◌, filter, arith}
+use Rattle.std.proofs.Common.{◌≡◌, refl, sym, ap, ap₂, ◌∙◌, ℕ, ◌+◌, Bool, true, false, not, List, [], ◌∷◌, ◌++◌, filter, arith, inl, inr}
 use Rattle.std.specs.Prelude.{◌&&◌, ◌||◌, Option, Some, None, if◌then◌else◌}
 use Rattle.std.specs.List.{list_any, enumerate_from}
 use Rattle.std.specs.Option.{option_eq}
-use Rattle.std.proofs.lemmas.Bool.{or_left, or_right}
+use Rattle.std.proofs.lemmas.Bool.{cases_Bool, or_left, or_right}
 use Rattle.std.proofs.lemmas.List.Folds.{list_any-append}
 use denote.Enum.Bare.{sameb, true_same}
 use Rattle.scim_schema.specs.declared.Kind.{Kind}
@@ -33,10 +33,11 @@ use Rattle.scim_filter_grammar.specs.Tree.{Tree, Or, And, Not, Present, Compare,
 use Rattle.scim_filter.specs.Truth.{is_present, leaf_compares, compares, some_position, truth}
 use Rattle.scim_filter_grammar.specs.Types.{leaf_for, compared_leaf}
 use Rattle.scim_policy.specs.Rules.{Rule, Target}
-use Rattle.scim_policy.specs.Decide.{holds_on, speaks_of, fits, fits_wholly, first_of, decide}
-use Rattle.scim_policy.specs.Patterns.{pattern_rules, up_to_whole}
+use Rattle.scim_policy.specs.Fits.{holds_on, speaks_of, is_reading, fits, fits_wholly, first_of, decide_wholly}
+use Rattle.scim_policy.specs.Patterns.{PatternRule, decisions_of, pattern_rules, up_to_whole, whole_decision}
 use Rattle.scim_policy.specs.PatternLaws.{PatternsRestOnControl}
-use Rattle.scim_policy.specs.Control.{names_attribute, is_named_in, is_unique, control}
+use Rattle.scim_policy.specs.Control.{names_attribute, is_named_in, is_unique, control, DecisionsRestOnControl}
+use Rattle.scim_policy.proofs.RuleLemmas.{decide_reading, decide_other}
 
 -- whether one of some names is of an attribute
 abbrev pub has_name : Attribute → List Named → Bool
@@ -167,11 +168,24 @@ patterns_same policy client a b l same_kind same =
     ap (up_to_whole a l) (reading_same keep client Read a b l same_kind same_rows 1 policy (λ x e. or_left _ _ e))
     ∙ up_to_whole_same keep client Read a b l same_kind same_rows _
 
--- on resources of one kind with equal values in control, a policy decides alike
-pub decide_same : (policy : List Rule) (client : List ℕ) (op : Op) (a b : Content) (l : Leaf) → a.kind ≡ b.kind → control policy a ≡ control policy b → decide policy client op a l ≡ decide policy client op b l
-unfolding decide control
-decide_same policy client op a b l same_kind same =
+-- the first rule that fits and covers the leaf at all values is the same too
+wholly_same : (policy : List Rule) (client : List ℕ) (op : Op) (a b : Content) (l : Leaf) → a.kind ≡ b.kind → control policy a ≡ control policy b → decide_wholly policy client op a l ≡ decide_wholly policy client op b l
+unfolding decide_wholly control
+wholly_same policy client op a b l same_kind same =
     let keep = λ (x : Attribute). is_named_in policy x || is_unique a.kind x in
     let same_rows : kept_rows keep (rows a) ≡ kept_rows keep (rows b) =
     same ∙ ap (λ (k : Kind). kept_rows (λ (x : Attribute). is_named_in policy x || is_unique k x) (rows b)) (sym same_kind) in
     ap first_of (fitting_same keep client op a b l same_kind same_rows 1 policy (λ x e. or_left _ _ e))
+
+-- on resources of one kind with equal values in control, a policy decides alike
+pub decide_same : DecisionsRestOnControl
+decide_same policy client op a b l same_kind same = elim (cases_Bool (is_reading op)) [
+  | inl reads ↦
+      decide_reading policy client op a l reads
+      ∙ ap (λ (rs : List PatternRule). whole_decision (decisions_of rs)) (patterns_same policy client a b l same_kind same)
+      ∙ sym (decide_reading policy client op b l reads)
+  | inr other ↦
+      decide_other policy client op a l other
+      ∙ wholly_same policy client op a b l same_kind same
+      ∙ sym (decide_other policy client op b l other)
+]

@@ -1,11 +1,11 @@
 pub mod AccessLemmas
 pub mod ControlLemmas
+pub mod NumberLemmas
+pub mod OpenedLemmas
 pub mod PatternLawLemmas
 pub mod PatternLemmas
-pub mod PickedLemmas
 pub mod ReadingRuleLemmas
 pub mod RuleLemmas
-pub mod SharedLemmas
 pub mod TableLemmas
 pub mod ValueLemmas
 pub mod Facts

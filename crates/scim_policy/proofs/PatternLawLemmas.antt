@@ -1,9 +1,9 @@
 -- What patterns say of positions, of values and of leaves as a whole.
-use Rattle.std.proofs.Common.{◌≡◌, refl, sym, ap, ap₂, ◌∙◌, ℕ, zero, suc, ◌+◌, Bool, true, false, List, [], ◌∷◌, ◌++◌, length, drop, take, map, inl, inr, arith}
-use Rattle.std.specs.Prelude.{not, ◌&&◌, ◌||◌, ◌==◌, slice_get, Option, Some, None, filter, if◌then◌else◌}
+use Rattle.std.proofs.Common.{◌≡◌, refl, sym, ap, ap₂, ◌∙◌, ℕ, zero, suc, ◌+◌, Bool, true, false, List, [], ◌∷◌, ◌++◌, length, drop, take, inl, inr, arith}
+use Rattle.std.specs.Prelude.{not, ◌&&◌, ◌||◌, ◌==◌, slice_get, Some, None, filter, if◌then◌else◌}
 use Rattle.std.specs.List.{list_any, list_all, enumerate_from}
 use Rattle.std.specs.Option.{option_eq}
-use Rattle.std.proofs.lemmas.Bool.{cases_Bool, eqb-true}
+use Rattle.std.proofs.lemmas.Bool.{cases_Bool, eqb-true, or_left, or_right}
 use denote.Enum.Bare.{sameb}
 use Rattle.scim_schema.specs.declared.Kind.{Kind}
 use Rattle.scim_schema.specs.declared.Op.TheVariants.{Read}
@@ -22,10 +22,12 @@ use Rattle.scim_filter_grammar.specs.Tree.{Tree, Values, attribute_meant}
 use Rattle.scim_filter.specs.Truth.{rows_at, truth, truth_at, truth_in_value}
 use Rattle.scim_policy.specs.declared.rules.Decision.{Decision}
 use Rattle.scim_policy.specs.Rules.{FilteredPath, KindPaths, Rule}
-use Rattle.scim_policy.specs.Decide.{attribute_before, covers_in, covers_in_part, covers_partly, decide, filtered_on, first_of, fits, fits_wholly, is_after, speaks_of}
-use Rattle.scim_policy.specs.Patterns.{PatternRule, decided_for, decisions_of, decide_at, decide_in, decision_of, filters_on, first_or_denied, pattern, pattern_rules, up_to_whole, whole_decision}
+use Rattle.scim_policy.specs.Fits.{attribute_before, covers_in, covers_in_part, covers_partly, decide_wholly, filtered_on, first_of, fits, fits_wholly, speaks_of}
+use Rattle.scim_policy.specs.Decide.{decide}
+use Rattle.scim_policy.specs.Opened.{allows}
+use Rattle.scim_policy.specs.Patterns.{PatternRule, decided_for, decisions_of, decide_at, decide_in, decision_of, filters_on, first_or_denied, is_for_value, pattern, pattern_rules, up_to_whole, whole_decision}
 use Rattle.scim_policy.proofs.PatternLemmas.{whole_first, partial_first}
-use Rattle.scim_policy.specs.PatternLaws.{is_plain, IsOneDecision, PlainPoliciesDecideOnce, PositionsAreDecidedByValue, IsAllowedWholly, WholesAllowEachValue}
+use Rattle.scim_policy.specs.PatternLaws.{is_plain, PlainPoliciesDecideOnce, PositionsAreDecidedByValue, WholesAllowEachValue}
 
 and_first : (a b : Bool) → a && b ≡ true → a ≡ true
 and_first true b e = refl
@@ -62,14 +64,20 @@ plain_undivided c l (r ∷ rs) plain =
     let none : filtered_on c.kind r.paths ≡ [] = none_filtered c.kind r.paths (and_first _ _ plain) in
     rw none (plain_undivided c l rs (and_second _ _ plain))
 
--- no value filter covers a leaf of a single-valued attribute
-none_covers : (l : Leaf) (ps : List FilteredPath) → is_multi_valued l.attribute ≡ false → list_any (covers_in_part l) ps ≡ false
-none_covers l [] single = refl
-none_covers l (p ∷ ps) single = rw single (none_covers l ps single)
+-- no value filter covers a leaf of a single-valued attribute, or of `groups`
+none_covers : (l : Leaf) (ps : List FilteredPath) → ((p : FilteredPath) → covers_in_part l p ≡ false) → list_any (covers_in_part l) ps ≡ false
+none_covers l [] none = refl
+none_covers l (p ∷ ps) none = rw (none p) (none_covers l ps none)
+
+none_divides : (c : Content) (l : Leaf) (rs : List Rule) → ((p : FilteredPath) → covers_in_part l p ≡ false) → list_any (covers_partly Read c l) rs ≡ false
+none_divides c l [] none = refl
+none_divides c l (r ∷ rs) none = rw (none_covers l (filtered_on c.kind r.paths) none) (none_divides c l rs none)
 
 pub single_undivided : (c : Content) (l : Leaf) (rs : List Rule) → is_multi_valued l.attribute ≡ false → list_any (covers_partly Read c l) rs ≡ false
-single_undivided c l [] single = refl
-single_undivided c l (r ∷ rs) single = rw (none_covers l (filtered_on c.kind r.paths) single) (single_undivided c l rs single)
+single_undivided c l rs single = none_divides c l rs (λ p. rw single refl)
+
+pub groups_undivided : (c : Content) (l : Leaf) (rs : List Rule) → l.attribute ≡ Groups → list_any (covers_partly Read c l) rs ≡ false
+groups_undivided c l rs own = none_divides c l rs (λ p. rw own refl)
 
 -- if no rule covers the leaf at some values, the first that covers it at all values is the whole pattern
 undivided_rules : (client : List ℕ) (c : Content) (l : Leaf) (n : ℕ) (rs : List Rule) → list_any (covers_partly Read c l) rs ≡ false
@@ -87,10 +95,27 @@ undivided_rules client c l n (r ∷ rs) none =
       | inr silent ↦ rw silent ih
     ]
 
+undivided_wholly : (policy : List Rule) (client : List ℕ) (c : Content) (l : Leaf) → list_any (covers_partly Read c l) policy ≡ false
+    → pattern_rules policy client c l ≡ record { decision = decide_wholly policy client Read c l; filters = None } ∷ []
+unfolding pattern_rules decide_wholly
+undivided_wholly policy client c l none = undivided_rules client c l 1 policy none
+
+pub whole_one : (d : Decision) → whole_decision (d ∷ []) ≡ d
+whole_one d = elim (cases_Bool d.allow) [ inl t ↦ rw t refl | inr f ↦ rw f refl ]
+
+pub undivided_decision : (policy : List Rule) (client : List ℕ) (c : Content) (l : Leaf) → list_any (covers_partly Read c l) policy ≡ false
+    → decide policy client Read c l ≡ decide_wholly policy client Read c l
+unfolding decide
+undivided_decision policy client c l none =
+    ap (λ (rs : List PatternRule). whole_decision (decisions_of rs)) (undivided_wholly policy client c l none)
+    ∙ whole_one (decide_wholly policy client Read c l)
+
+-- it is the decision on the leaf
 pub undivided_pattern : (policy : List Rule) (client : List ℕ) (c : Content) (l : Leaf) → list_any (covers_partly Read c l) policy ≡ false
     → pattern_rules policy client c l ≡ record { decision = decide policy client Read c l; filters = None } ∷ []
-unfolding pattern_rules decide
-undivided_pattern policy client c l none = undivided_rules client c l 1 policy none
+undivided_pattern policy client c l none =
+    undivided_wholly policy client c l none
+    ∙ ap (λ (d : Decision). record { decision = d; filters = None } ∷ []) (sym (undivided_decision policy client c l none))
 
 pub plain_once : PlainPoliciesDecideOnce
 unfolding decide_at decide_in
@@ -200,7 +225,7 @@ whole_of c l (n ∷ ns) = elim (cases_Bool (covers_in c l n.1)) [
     one d ds = first_allows (d ∷ ds) (d ∷ ds) d.allow refl (λ all. and_first _ _ all)
 
 pub wholes_allow : WholesAllowEachValue
-unfolding pattern_rules decide_at decide_in
+unfolding decide pattern_rules decide_at decide_in
 wholes_allow policy client c l =
     let ns = filter (λ (numbered : ℕ × Rule). fits client Read c l numbered.1) (enumerate_from 1 policy) in
     let every = whole_of c l ns in
@@ -209,3 +234,32 @@ wholes_allow policy client c l =
       positions = λ allowed k. all_allowed (λ t. truth_at t k (rows c)) c l ns (sym every ∙ allowed);
       values = λ allowed r. all_allowed (λ t. truth_in_value t r) c l ns (sym every ∙ allowed);
     }
+
+-- ---- patterns of which a rule allows
+
+-- if the first rule that is for a value allows, a rule allows
+pub some_allows_for : (matches : Tree → Bool) (rs : List PatternRule) → (decided_for matches rs).allow ≡ true → list_any allows (decisions_of rs) ≡ true
+some_allows_for matches [] = λ none. cc
+some_allows_for matches (r ∷ rs) = elim (cases_Bool (is_for_value matches r)) [
+  | inl it ↦ rw it (λ allowed. or_left _ _ allowed)
+  | inr other ↦ rw other (λ allowed. or_right _ _ (some_allows_for matches rs allowed))
+]
+
+pub some_allows_in : (policy : List Rule) (client : List ℕ) (c : Content) (l : Leaf) (r : Row) → (decide_in policy client c l r).allow ≡ true → list_any allows (pattern policy client c l) ≡ true
+unfolding decide_in
+some_allows_in policy client c l r allowed = some_allows_for (λ t. truth_in_value t r) (pattern_rules policy client c l) allowed
+
+-- a pattern isn't empty: if all its rules allow, one does
+some_of : (c : Content) (l : Leaf) (ns : List (ℕ × Rule)) → list_all allows (decisions_of (up_to_whole c l ns)) ≡ true → list_any allows (decisions_of (up_to_whole c l ns)) ≡ true
+some_of c l [] = λ all. cc
+some_of c l (n ∷ ns) = elim (cases_Bool (covers_in c l n.1)) [
+  | inl whole ↦ rw (whole_first c l n ns whole) (first_some (decision_of n) [])
+  | inr other ↦ rw (partial_first c l n ns other) (first_some (decision_of n) (decisions_of (up_to_whole c l ns)))
+]
+  where
+    first_some : (d : Decision) (ds : List Decision) → list_all allows (d ∷ ds) ≡ true → list_any allows (d ∷ ds) ≡ true
+    first_some d ds all = or_left d.allow (list_any allows ds) (and_first d.allow (list_all allows ds) all)
+
+pub some_allows : (policy : List Rule) (client : List ℕ) (c : Content) (l : Leaf) → list_all allows (pattern policy client c l) ≡ true → list_any allows (pattern policy client c l) ≡ true
+unfolding pattern_rules
+some_allows policy client c l all = some_of c l (filter (λ (numbered : ℕ × Rule). fits client Read c l numbered.1) (enumerate_from 1 policy)) all

@@ -1,9 +1,17 @@
 -- What a table of patterns says while rules are added.
 use Rattle.std.proofs.Common.{◌≡◌, refl, sym, subst, ap, ap₂, ◌∙◌, ℕ, ◌+◌, ◌<◌, ◌≤◌, Bool, true, false, List, [], ◌∷◌, ◌++◌, length, get_or, map, drop, All, inl, inr, arith}
 use Rattle.std.specs.Prelude.{not, ◌&&◌, ◌||◌, ◌==◌, nat_lt, Option, Some, None, is_some, filter, if◌then◌else◌}
-use Rattle.std.specs.List.{list_any, enumerate_from}
+use Rattle.std.specs.List.{list_any}
+use Rattle.std.specs.Option.{option_eq}
+use denote.Enum.Bare.{sameb}
+use Rattle.scim_schema.specs.declared.Attribute.{Attribute}
+use Rattle.scim_schema.specs.declared.Attribute.TheVariants.{Groups}
+use Rattle.scim_schema.specs.contracts.Attribute.{the_type as the_attribute}
+use Rattle.scim_schema.specs.Characteristics.{is_multi_valued}
+use Rattle.scim_schema.specs.Units.{is_same_attribute}
+use Rattle.scim_schema.proofs.Facts.{attribute_one}
 use Rattle.std.proofs.Math.ListN.{drop_of_length-le}
-use Rattle.std.proofs.lemmas.Bool.{cases_Bool, lt-ltb, le-ltb}
+use Rattle.std.proofs.lemmas.Bool.{cases_Bool, lt-ltb, le-ltb, and_left, and_right, or_parts}
 use Rattle.std.proofs.lemmas.List.{at_drop_more, append-nil}
 use Rattle.std.proofs.lemmas.List.Elements.{All-head, All-tail, All-nil, All-cons, All-append, All-weaker}
 use Rattle.scim_schema.specs.declared.Kind.{Kind}
@@ -12,14 +20,15 @@ use Rattle.scim_schema.specs.declared.Leaf.{Leaf}
 use Rattle.scim_cell.specs.Content.{Content}
 use Rattle.scim_filter_grammar.specs.Tree.{Tree}
 use Rattle.scim_policy.specs.declared.rules.Decision.{Decision}
+use Rattle.scim_policy.specs.declared.patterns.PartialRule.{PartialRule}
 use Rattle.scim_policy.specs.declared.patterns.Patterns.{Patterns}
 use Rattle.scim_policy.specs.Rules.{FilteredPath, Rule}
-use Rattle.scim_policy.specs.Decide.{covers, covers_in, covers_in_part, filtered_on, fits, is_about, is_target_met, paths_on, speaks_of}
+use Rattle.scim_policy.specs.Fits.{attribute_before, covers, covers_in, covers_in_part, filtered_on, fits, is_about, is_after, is_target_met, paths_on, speaks_of}
 use Rattle.scim_policy.specs.Patterns.{PatternRule, decided_for, decision_of, filters_on, first_or_denied, is_for_value, pattern_rules, up_to_whole, whole_decision}
-use Rattle.scim_policy.specs.PatternTable.{partial_paths, is_before, counts, partial_rule, partial_rules, last_rule, rules_in}
+use Rattle.scim_policy.specs.PatternTable.{partial_paths, is_on, counts, partial_rule, partial_rules, last_decision, last_rule, rules_in}
 use Rattle.scim_policy.specs.Table.{or_else, decided}
 use Rattle.scim_policy.specs.code.Walk.{by_paths}
-use Rattle.scim_policy.proofs.SharedLemmas.{speaks_grouped}
+use Rattle.scim_policy.proofs.RuleLemmas.{speaks_grouped}
 use Rattle.scim_policy.proofs.TableLemmas.{rest_all}
 use Rattle.scim_policy.specs.code.PatternWalk.{partial_of, AddsRule, rules_left, fitting_from, HasWalked}
 
@@ -328,3 +337,53 @@ decided_now matches r rs is = rw is refl
 
 pub decided_later : (matches : Tree → Bool) (r : PatternRule) (rs : List PatternRule) → is_for_value matches r ≡ false → decided_for matches (r ∷ rs) ≡ decided_for matches rs
 decided_later matches r rs other = rw other refl
+
+-- so it does of the rules from the i-th on, if that counts for the leaf
+module _ {X : Type 0} (f : X → Decision × List FilteredPath) (l : Leaf) (o : Option Decision) (rs : List X) (p : X) (i : ℕ) (less : i < length rs) (there : p ≡ get_or rs i p) (matches : Tree → Bool) where
+  pub decided_here : counts l o (f p) ≡ true → list_any matches (filters_on l (f p).1) ≡ true → (f p).0 ≡ decided_for matches (rules_from f l o rs i)
+  decided_here counted is =
+      sym (decided_now matches (partial_rule l (f p)) (rules_from f l o rs (i + 1)) is)
+      ∙ ap (decided_for matches) (sym (rules_counted f l o rs p i less there counted))
+
+  pub decided_behind : counts l o (f p) ≡ true → list_any matches (filters_on l (f p).1) ≡ false → decided_for matches (rules_from f l o rs (i + 1)) ≡ decided_for matches (rules_from f l o rs i)
+  decided_behind counted other =
+      sym (decided_later matches (partial_rule l (f p)) (rules_from f l o rs (i + 1)) other)
+      ∙ ap (decided_for matches) (sym (rules_counted f l o rs p i less there counted))
+
+  pub decided_beside : counts l o (f p) ≡ false → decided_for matches (rules_from f l o rs (i + 1)) ≡ decided_for matches (rules_from f l o rs i)
+  decided_beside other = ap (decided_for matches) (sym (rules_other f l o rs p i less there other))
+
+-- ---- attributes on which no rule has a value filter
+
+-- a path that is on none of some attributes covers no leaf of them
+apart_covers : (attributes : List Attribute) (l : Leaf) (p : FilteredPath) → list_any (sameb the_attribute l.attribute) attributes ≡ true → is_on attributes p ≡ false → covers_in_part l p ≡ false
+apart_covers attributes l p own apart =
+    and_right (is_multi_valued l.attribute) _ (and_right (not (is_same_attribute l.attribute Groups)) _ (and_left _ (is_after p.sub_attribute l) (other attributes own apart)))
+  where
+    other : (more : List Attribute) → list_any (sameb the_attribute l.attribute) more ≡ true → is_on more p ≡ false → option_eq is_same_attribute (attribute_before p.tree) (Some l.attribute) ≡ false
+    other [] own apart = cc
+    other (a ∷ more) own apart =
+        let parts = or_parts (option_eq is_same_attribute (attribute_before p.tree) (Some a)) (is_on more p) apart in
+        elim (cases_Bool (sameb the_attribute l.attribute a)) [
+          | inl one ↦ ap (λ (b : Attribute). option_eq is_same_attribute (attribute_before p.tree) (Some b)) (attribute_one l.attribute a one) ∙ parts.0
+          | inr two ↦ other more (rw two at own) parts.1
+        ]
+
+paths_apart : (attributes : List Attribute) (l : Leaf) (ps : List FilteredPath) → list_any (sameb the_attribute l.attribute) attributes ≡ true → list_any (is_on attributes) ps ≡ false → list_any (covers_in_part l) ps ≡ false
+paths_apart attributes l [] own apart = refl
+paths_apart attributes l (p ∷ ps) own apart =
+    let parts = or_parts (is_on attributes p) (list_any (is_on attributes) ps) apart in
+    rw (apart_covers attributes l p own parts.0) (paths_apart attributes l ps own parts.1)
+
+rules_apart : (attributes : List Attribute) (l : Leaf) (o : Option Decision) (rs : List PartialRule) → list_any (sameb the_attribute l.attribute) attributes ≡ true
+    → list_any (λ (r : PartialRule). list_any (is_on attributes) r.filtered.now) rs ≡ false → partial_rules l o (map partial_paths rs) ≡ []
+rules_apart attributes l o [] own apart = refl
+rules_apart attributes l o (r ∷ rs) own apart =
+    let parts = or_parts (list_any (is_on attributes) r.filtered.now) (list_any (λ (q : PartialRule). list_any (is_on attributes) q.filtered.now) rs) apart in
+    rw (paths_apart attributes l r.filtered.now own parts.0) (rules_apart attributes l o rs own parts.1)
+
+-- the pattern of a leaf of them in the table is the last rule
+pub plain_rules : (ps : Patterns) (attributes : List Attribute) → list_any (λ (r : PartialRule). list_any (is_on attributes) r.filtered.now) ps.partial.items ≡ false
+    → (l : Leaf) → list_any (sameb the_attribute l.attribute) attributes ≡ true → rules_in ps l ≡ record { decision = last_decision ps l; filters = None } ∷ []
+unfolding rules_in last_decision
+plain_rules ps attributes apart l own = ap (λ (rs : List PatternRule). rs ++ last_rule (decided ps.last l) ∷ []) (rules_apart attributes l (decided ps.last l) ps.partial.items own apart)

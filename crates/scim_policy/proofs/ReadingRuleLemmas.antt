@@ -1,8 +1,8 @@
 -- What rules that are selected for reading give.
 use Rattle.std.proofs.Common.{◌≡◌, refl, sym, ap, ◌∙◌, subst, ℕ, zero, suc, ◌+◌, ◌<◌, ◌≤◌, Bool, true, false, List, [], ◌∷◌, ◌++◌, length, get_or, map, drop, inl, inr, arith}
 use Rattle.std.proofs.Math.ListN.{drop_of_length-le}
-use Rattle.std.specs.Prelude.{◌&&◌, ◌||◌, Option, None, is_some, filter, if◌then◌else◌}
-use Rattle.std.specs.List.{list_any, enumerate_from}
+use Rattle.std.specs.Prelude.{◌&&◌, ◌||◌, None, is_some, filter, if◌then◌else◌}
+use Rattle.std.specs.List.{enumerate_from}
 use Rattle.std.proofs.lemmas.Bool.{cases_Bool}
 use Rattle.std.proofs.lemmas.List.{append-nil, at_drop_more}
 use Rattle.scim_schema.specs.declared.Kind.{Kind}
@@ -12,15 +12,15 @@ use Rattle.scim_cell.specs.Content.{Content}
 use Rattle.scim_policy.specs.declared.patterns.Patterns.{Patterns}
 use Rattle.scim_policy.specs.declared.reading_rules.ReadingRule.{ReadingRule}
 use Rattle.scim_policy.specs.Rules.{Rule}
-use Rattle.scim_policy.specs.Decide.{covers_in, covers_partly, fits, is_about, is_target_met}
-use Rattle.scim_policy.specs.Patterns.{PatternRule, decision_of, pattern_rules, up_to_whole}
+use Rattle.scim_policy.specs.Fits.{covers_in, covers_partly, fits, is_about, is_target_met}
+use Rattle.scim_policy.specs.Patterns.{decision_of, pattern_rules, up_to_whole}
 use Rattle.scim_policy.specs.PatternTable.{rules_in}
-use Rattle.scim_policy.specs.Picked.{is_met_for_reading, rules_by}
+use Rattle.scim_policy.specs.Selected.{is_met_for_reading, rules_by}
 use Rattle.scim_policy.specs.Table.{decided}
 use Rattle.scim_policy.specs.code.Inside.{reading_rule, AreAbove}
 use Rattle.scim_policy.specs.code.PatternWalk.{AddsRule, HasWalked}
-use Rattle.scim_policy.proofs.PatternLemmas.{with_one, walk_start, walk_rule, walk_past, walk_end, walk_whole}
-use Rattle.scim_policy.proofs.SharedLemmas.{speaks_grouped}
+use Rattle.scim_policy.proofs.PatternLemmas.{walk_start, walk_rule, walk_past, walk_end, walk_whole}
+use Rattle.scim_policy.proofs.RuleLemmas.{speaks_grouped}
 
 -- ---- which rules are selected
 

@@ -18,7 +18,7 @@ use Rattle.scim_policy.specs.declared.rules.PolicyPath.{PolicyPath}
 use Rattle.scim_policy.specs.declared.rules.PolicyPath.TheVariants.{SubAttribute as SubAttributePath}
 use Rattle.scim_policy.specs.declared.decisions.AttributeDecisions.{AttributeDecisions}
 use Rattle.scim_policy.specs.declared.decisions.Decisions.{Decisions}
-use Rattle.scim_policy.specs.Decide.{covers}
+use Rattle.scim_policy.specs.Fits.{covers}
 use Rattle.scim_policy.specs.Table.{or_else, at_sub_attribute, in_attribute, in_attributes, decided}
 use Rattle.scim_policy.specs.code.Walk.{by_path, by_paths, by_name}
 

@@ -1,19 +1,18 @@
 -- How the fields of a value are decided by the rules that it matches.
 use Rattle.std.proofs.Common.{◌≡◌, refl, sym, ap, ap₂, ◌∙◌, Bool, true, false, List, [], ◌∷◌, ◌++◌, map, inl, inr}
-use Rattle.std.specs.Prelude.{◌&&◌, ◌||◌, Option, filter, if◌then◌else◌}
+use Rattle.std.specs.Prelude.{◌&&◌, Option, filter, if◌then◌else◌}
 use Rattle.std.specs.List.{list_any}
 use Rattle.std.proofs.lemmas.Bool.{cases_Bool, or_left, or_right}
 use Rattle.scim_schema.specs.declared.Leaf.{Leaf}
 use Rattle.scim_cell.specs.declared.rows.Field.{Field}
 use Rattle.scim_cell.specs.Rows.{Row}
-use Rattle.scim_filter_grammar.specs.Tree.{Tree}
 use Rattle.scim_filter.specs.Truth.{truth_in_value}
 use Rattle.scim_policy.specs.declared.rules.Decision.{Decision}
 use Rattle.scim_policy.specs.declared.patterns.Patterns.{Patterns}
 use Rattle.scim_policy.specs.Rules.{FilteredPath}
-use Rattle.scim_policy.specs.Decide.{covers_in_part}
-use Rattle.scim_policy.specs.Patterns.{PatternRule, decided_for, decisions_of, filters_on, first_or_denied}
-use Rattle.scim_policy.specs.PatternTable.{is_before, counts, partial_paths, partial_rules, last_rule, rules_in}
+use Rattle.scim_policy.specs.Fits.{covers_in_part}
+use Rattle.scim_policy.specs.Patterns.{decided_for, decisions_of, filters_on, first_or_denied}
+use Rattle.scim_policy.specs.PatternTable.{is_before, partial_paths, partial_rules, last_rule, rules_in}
 use Rattle.scim_policy.specs.Table.{decided}
 use Rattle.scim_policy.specs.code.ValueWalk.{covers_field, matched_in, matching}
 

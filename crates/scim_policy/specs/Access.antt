@@ -1,5 +1,5 @@
 -- A client's rights on an existing resource, and the rights that a change would add.
-use Rattle.std.specs.Prelude.{ℕ, not, ◌&&◌, List, [], ◌∷◌, ◌++◌, map, filter, find, Option, None, Some, if◌then◌else◌}
+use Rattle.std.specs.Prelude.{ℕ, not, ◌&&◌, List, [], ◌∷◌, ◌++◌, map, filter, find, Option, if◌then◌else◌}
 use Rattle.std.specs.List.{flat_map}
 use Rattle.scim_schema.specs.declared.Kind.{Kind}
 use Rattle.scim_schema.specs.declared.Op.{Op}
@@ -13,16 +13,24 @@ use Rattle.scim_cell.specs.Content.{Content}
 use Rattle.scim_policy.specs.declared.rules.Decision.{Decision}
 use Rattle.scim_policy.specs.Rules.{Rule}
 use Rattle.scim_policy.specs.Decide.{decide}
+use Rattle.scim_policy.specs.Opened.{first, opened_for_reading}
+use Rattle.scim_policy.specs.Patterns.{pattern}
 
--- the decisions on reading, modifying and deleting a resource, for each leaf
+-- the decisions on reading, modifying and deleting a resource, and its patterns for reading, for each leaf
 pub record Access : Type 0 where
   pub read : Leaf → Decision
+  pub patterns : Leaf → List Decision
   pub modify : Leaf → Decision
   pub delete : Leaf → Decision
 
 -- the rights that a policy gives a client on a resource
 abbrev pub access : List Rule → List ℕ → Content → Access
-access policy client c = record { read = decide policy client Read c; modify = decide policy client Modify c; delete = decide policy client Delete c }
+access policy client c = record {
+  read = decide policy client Read c;
+  patterns = pattern policy client c;
+  modify = decide policy client Modify c;
+  delete = decide policy client Delete c;
+}
 
 -- ---- which units may be written
 
@@ -50,12 +58,7 @@ opened kind op before after = map (λ l. (op, l, after l)) (filter (λ l. (after
 -- all rights that a change of a resource would add, first on reading, then on modifying, then on deleting
 abbrev pub widenings : Kind → Access → Access → List (Op × Leaf × Decision)
 widenings kind before after =
-    opened kind Read before.read after.read ++ (opened kind Modify before.modify after.modify ++ opened kind Delete before.delete after.delete)
-
--- the first element, if there is one
-abbrev pub first : {X : Type 0} → List X → Option X
-first [] = None
-first (x ∷ xs) = Some x
+    opened_for_reading kind before.patterns after.patterns ++ (opened kind Modify before.modify after.modify ++ opened kind Delete before.delete after.delete)
 
 -- the first right that a change would add; None if the change adds no right
 unfoldable pub widening : Kind → Access → Access → Option (Op × Leaf × Decision)

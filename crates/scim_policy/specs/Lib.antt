@@ -2,10 +2,11 @@ pub mod code
 pub mod Access
 pub mod Control
 pub mod Decide
+pub mod Fits
 pub mod Opened
 pub mod PatternLaws
 pub mod PatternTable
 pub mod Patterns
-pub mod Picked
 pub mod Rules
+pub mod Selected
 pub mod Table

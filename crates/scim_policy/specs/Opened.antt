@@ -1,5 +1,5 @@
 -- The rights on reading that a change would add, by the patterns of leaves.
-use Rattle.std.specs.Prelude.{ℕ, Bool, not, ◌&&◌, nat_eq, List, filter, filter_map, Option, None, option_map, if◌then◌else◌}
+use Rattle.std.specs.Prelude.{◌≡◌, ◌⊎◌, Bool, true, false, not, ◌&&◌, nat_eq, List, [], ◌∷◌, filter, filter_map, Option, None, Some, option_map, if◌then◌else◌}
 use Rattle.std.specs.List.{list_any, list_all}
 use Rattle.std.specs.Cmp.Lexicographic.{pointwise}
 use Rattle.scim_schema.specs.declared.Kind.{Kind}
@@ -8,7 +8,11 @@ use Rattle.scim_schema.specs.declared.Op.TheVariants.{Read}
 use Rattle.scim_schema.specs.declared.Leaf.{Leaf}
 use Rattle.scim_schema.specs.Table.{leaves}
 use Rattle.scim_policy.specs.declared.rules.Decision.{Decision}
-use Rattle.scim_policy.specs.Access.{first}
+
+-- the first element, if there is one
+abbrev pub first : {X : Type 0} → List X → Option X
+first [] = None
+first (x ∷ xs) = Some x
 
 -- whether the decision allows
 abbrev pub allows : Decision → Bool
@@ -35,3 +39,9 @@ opening l o = option_map (λ (d : Decision). (Read, l, d)) o
 -- the leaves on which a change opens reading, in order
 abbrev pub opened_for_reading : Kind → (Leaf → List Decision) → (Leaf → List Decision) → List (Op × Leaf × Decision)
 opened_for_reading kind before after = filter_map (λ (l : Leaf). opening l (opened_at (before l) (after l))) (leaves kind)
+
+-- a change of a leaf's pattern doesn't open reading: the patterns before and after it are equal, or no rule of the one
+-- afterwards allows, or every rule of both allows
+abbrev pub IsNotOpened : List Decision → List Decision → Type 0
+IsNotOpened before after =
+    (before ≡ after) ⊎ ((list_any allows after ≡ false) ⊎ ((list_all allows before ≡ true) × (list_all allows after ≡ true)))

@@ -8,7 +8,7 @@ use Rattle.scim_cell.specs.Rows.{Row, rows, attribute_rows}
 use Rattle.scim_policy.specs.declared.rules.Decision.{Decision}
 use Rattle.scim_policy.specs.Rules.{KindPaths, Rule}
 use Rattle.scim_policy.specs.Decide.{decide}
-use Rattle.scim_policy.specs.Patterns.{pattern_rules, pattern, whole_decision, decide_in, decide_at}
+use Rattle.scim_policy.specs.Patterns.{pattern_rules, pattern, decide_in, decide_at}
 use Rattle.scim_policy.specs.Control.{control}
 
 -- whether no rule has a path with a value filter
@@ -34,9 +34,9 @@ PositionsAreDecidedByValue =
 -- reading a leaf is allowed as a whole exactly if each rule of its pattern allows; then it is allowed at each
 -- position, and in each value
 pub record IsAllowedWholly (policy : List Rule) (client : List ℕ) (c : Content) (l : Leaf) : Type 0 where
-  pub every : (whole_decision (pattern policy client c l)).allow ≡ list_all (λ (d : Decision). d.allow) (pattern policy client c l)
-  pub positions : (whole_decision (pattern policy client c l)).allow ≡ true → (k : ℕ) → (decide_at policy client c l k).allow ≡ true
-  pub values : (whole_decision (pattern policy client c l)).allow ≡ true → (r : Row) → (decide_in policy client c l r).allow ≡ true
+  pub every : (decide policy client Read c l).allow ≡ list_all (λ (d : Decision). d.allow) (pattern policy client c l)
+  pub positions : (decide policy client Read c l).allow ≡ true → (k : ℕ) → (decide_at policy client c l k).allow ≡ true
+  pub values : (decide policy client Read c l).allow ≡ true → (r : Row) → (decide_in policy client c l r).allow ≡ true
 
 abbrev pub WholesAllowEachValue : Type 0
 WholesAllowEachValue = (policy : List Rule) (client : List ℕ) (c : Content) (l : Leaf) → IsAllowedWholly policy client c l

@@ -9,7 +9,7 @@ use Rattle.scim_filter_grammar.specs.Tree.{Tree}
 use Rattle.scim_filter.specs.Truth.{truth_at, truth_in_value}
 use Rattle.scim_policy.specs.declared.rules.Decision.{Decision}
 use Rattle.scim_policy.specs.Rules.{FilteredPath, Rule}
-use Rattle.scim_policy.specs.Decide.{covers_in, covers_in_part, filtered_on, fits}
+use Rattle.scim_policy.specs.Fits.{covers_in, covers_in_part, filtered_on, fits}
 
 -- the filters of those paths with a value filter that cover the leaf
 abbrev pub filters_on : Leaf → List FilteredPath → List Tree

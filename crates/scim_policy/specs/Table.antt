@@ -9,8 +9,6 @@ use Rattle.scim_schema.specs.contracts.SubAttribute.{the_type as the_sub_attribu
 use Rattle.scim_policy.specs.declared.rules.Decision.{Decision}
 use Rattle.scim_policy.specs.declared.decisions.AttributeDecisions.{AttributeDecisions}
 use Rattle.scim_policy.specs.declared.decisions.Decisions.{Decisions}
-use Rattle.scim_policy.specs.declared.access_rights.Rights.{Rights}
-use Rattle.scim_policy.specs.Access.{Access}
 
 -- the first value if it is present, else the second one
 abbrev pub or_else : {Y : Type 0} → Option Y → Option Y → Option Y
@@ -50,7 +48,3 @@ or_denied (Some d) = d
 -- the decision on a leaf; if there is none in the table, rule 0 denies
 unfoldable pub decision : Decisions → Leaf → Decision
 decision ds l = or_denied (decided ds l)
-
--- the decisions in the three tables of a client's rights: on reading, on modifying and on deleting
-abbrev pub access_in : Rights → Access
-access_in r = record { read = decision r.read; modify = decision r.modify; delete = decision r.delete }

@@ -1,10 +1,10 @@
-//! Decision tables: what a policy decides for each leaf of a resource.
-ghost use Rattle.std.specs.Prelude.{◌≡◌, ◌<◌, ◌≤◌, ℕ, length, None, Some, Option, is_some, IfOk, OnOk};
+//! Decision tables: for each leaf of a resource, what the first rule decides that covers it at all values.
+ghost use Rattle.std.specs.Prelude.{◌≡◌, ◌<◌, ◌≤◌, ℕ, false, length, None, Some, Option, is_some, IfOk, OnOk};
 ghost use Rattle.scim_schema.specs.declared.limits.TheConstants.{MOST_RULES};
 ghost use Rattle.scim_schema.specs.declared.Leaf.{Leaf};
 ghost use Rattle.scim_schema.specs.declared.SubAttribute.{SubAttribute};
 ghost use Rattle.scim_policy.specs.Decide as spec;
-ghost use Rattle.scim_policy.specs.Decide.{paths_on};
+ghost use Rattle.scim_policy.specs.Fits.{is_reading, paths_on};
 ghost use Rattle.scim_policy.specs.Table.{or_else};
 ghost use Rattle.scim_policy.specs.Table as table;
 ghost use Rattle.scim_policy.specs.code.Walk as walk;
@@ -20,7 +20,7 @@ use std::alloc::Global;
 /// A decision table for a client's operation on one resource.
 ///
 /// It is computed for all leaves at once: a rule that fits the client, the operation and the resource decides
-/// every leaf that it covers and that no earlier rule has decided.
+/// every leaf that it covers at all values and that no earlier rule has decided.
 pub struct Decisions {
     attributes: Vec<AttributeDecisions>,
     rest: Option<Decision>,
@@ -44,7 +44,8 @@ struct AttributeDecisions {
 }
 
 impl Policy {
-    /// Computes the decision table for the client's operation on the resource.
+    /// Computes the decision table for the client's operation on the resource. The operation must not be
+    /// reading, which is decided value by value: for reading, call [`Policy::patterns`].
     ///
     /// The first rule that fits decides a leaf; if none fits, rule 0 denies.
     pub fn decisions(
@@ -54,6 +55,7 @@ impl Policy {
         op: Op,
         resource: &Resource,
     ) -> Result<Decisions, NoMemory>
+        requires { is_reading op ≡ false }
         ensures { IfOk result (λ ds. (l : Leaf)
             → table.decision ds l ≡ spec.decide self.now client.now op resource.now l) }
     {
@@ -62,8 +64,8 @@ impl Policy {
         Ok(decisions)
     }
 
-    /// Decides whether the client may do the operation on one leaf of the resource. For several leaves, call
-    /// `decisions` once.
+    /// Decides whether the client may do the operation on one leaf of the resource, in all its values. For
+    /// several leaves, call [`Policy::decisions`] or [`Policy::patterns`] once.
     pub fn decide(
         &self,
         alloc: Global,
@@ -74,6 +76,9 @@ impl Policy {
     ) -> Result<Decision, NoMemory>
         ensures { IfOk result (λ d. d ≡ spec.decide self.now client.now op resource.now leaf) }
     {
+        if op == Op::Read {
+            return Ok(self.patterns(alloc, client, resource)?.whole(leaf));
+        }
         Ok(self.decisions(alloc, client, op, resource)?.of(leaf))
     }
 }

@@ -6,7 +6,8 @@
 //!
 //! A rule for reading may cover an attribute at some values only: those that match a value filter. Then the
 //! first rule that fits and is for a value decides on reading the value. The rules that may decide, up to the
-//! first that covers the leaf at all values, are the pattern of the leaf.
+//! first that covers the leaf at all values, are the pattern of the leaf. On reading a leaf in all its values,
+//! the first rule of its pattern that denies decides; if all allow, the first.
 //!
 //! Cases: `crates/cases/data/policy.jsonl`.
 #![tactic(auto)]
@@ -20,8 +21,6 @@ mod patterns;
 mod reading_rules;
 mod rule_fit;
 mod rules;
-mod rules_about;
-mod shared_decisions;
 
 pub use access_rights::Rights;
 pub use decisions::Decisions;
@@ -33,4 +32,3 @@ pub use misfits::Misfit;
 pub use patterns::Patterns;
 pub use reading_rules::ReadingRules;
 pub use rules::{ClientName, Decision, FilteredPath, KindPaths, Policy, PolicyPath, Rule, Target};
-pub use rules_about::RulesAbout;

@@ -1,6 +1,6 @@
 //! Explains why a rule doesn't fit.
 ghost use Rattle.std.specs.Prelude.{◌≡◌, ◌≤◌, ◌-◌, IfOk, Some, length, not, is_some, option_map, slice_get};
-ghost use Rattle.scim_policy.specs.Decide as spec;
+ghost use Rattle.scim_policy.specs.Fits as spec;
 
 use crate::rule_fit::{is_kind, is_named, is_op};
 use crate::rules::{Policy, Rule};
@@ -55,7 +55,7 @@ impl Rule {
     ///
     /// `None` if the rule is for the client, the operation and the resource, and covers the leaf at all values
     /// or, for reading, at some.
-    #[tactic(auto, unfolding(crate::specs::Decide::speaks_of))]
+    #[tactic(auto, unfolding(crate::specs::Fits::speaks_of))]
     pub fn misfit(
         &self,
         alloc: Global,

@@ -3,8 +3,8 @@ ghost use Rattle.std.specs.Prelude.{◌≡◌, ◌∷◌, [], IfOk, filter};
 ghost use Rattle.std.specs.List.{list_all, list_any};
 ghost use Rattle.std.specs.Cmp.Lexicographic.{pointwise};
 ghost use Rattle.scim_schema.specs.declared.Leaf.{Leaf};
-ghost use Rattle.scim_policy.specs.Access.{first};
 ghost use Rattle.scim_policy.specs.Opened as spec;
+ghost use Rattle.scim_policy.specs.Opened.{first};
 ghost use Rattle.scim_policy.specs.Patterns.{decisions_of};
 ghost use Rattle.scim_policy.specs.PatternTable.{rules_in};
 

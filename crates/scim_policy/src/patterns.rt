@@ -2,25 +2,28 @@
 //! rule that decides on all others.
 ghost use Rattle.std.specs.Prelude.{◌≡◌, ◌∷◌, ◌++◌, [], true, None, IfNone, IfOk, IfSome, OnOk, is_some, map};
 ghost use Rattle.std.specs.List.{list_any};
+ghost use denote.Enum.Bare.{sameb};
 ghost use Rattle.scim_schema.specs.declared.Leaf.{Leaf};
+ghost use Rattle.scim_schema.specs.contracts.Attribute.{the_type as the_attribute};
+ghost use Rattle.scim_schema.specs.contracts.Op.{the_type as the_op};
 ghost use Rattle.scim_cell.specs.Rows.{rows};
 ghost use Rattle.scim_filter.specs.Truth.{truth_at, truth_in_value};
 ghost use Rattle.scim_cell.specs.Content.{Content};
-ghost use Rattle.scim_policy.specs.Decide.{covers_in_part, has_target_for};
+ghost use Rattle.scim_policy.specs.Fits.{covers_in_part, has_target_for};
 ghost use Rattle.scim_policy.specs.Patterns as spec;
 ghost use Rattle.scim_policy.specs.PatternTable as table;
 ghost use Rattle.scim_policy.specs.PatternTable.{rules_in};
 ghost use Rattle.scim_policy.specs.Table.{decided};
-ghost use Rattle.scim_policy.specs.code.PatternWalk.{AddsRule};
+ghost use Rattle.scim_policy.specs.code.PatternWalk.{AddsIf, AddsRule};
 ghost use Rattle.scim_policy.specs.code.ValueWalk as values;
 ghost use Rattle.scim_policy.specs.code.ValueWalk.{matching, matching_paths};
 
 use crate::decisions::Decisions;
-use crate::rule_fit::covers_some;
+use crate::rule_fit::{covers_some, is_op};
 use crate::rules::{Decision, FilteredPath, Policy, Rule};
 use scim_cell::{Field, Row};
 use scim_filter::{holds_at, holds_of};
-use scim_schema::{Kind, Leaf, Op};
+use scim_schema::{Attribute, Kind, Leaf, Op};
 use scim_text::{NoMemory, push};
 use scim_value::Resource;
 use std::alloc::Global;
@@ -192,6 +195,24 @@ impl<'p> Patterns<'p> {
         }
         Ok(())
     }
+
+    /// Adds what `rule` decides on resources of `kind`, if the rule is for reading. Leaves that an earlier rule
+    /// covers at all values keep their patterns.
+    pub(crate) fn add_rule_for_reading(
+        &mut self,
+        alloc: Global,
+        rule: &'p Rule,
+        kind: Kind,
+        number: u32,
+    ) -> Result<(), NoMemory>
+        ensures { OnOk result (AddsIf (list_any (sameb the_op Op.Read) rule.now.ops) kind
+            rule.now (record { rule = number; allow = rule.now.allow }) self.old self.new) }
+    {
+        if is_op(rule.ops(), Op::Read) {
+            self.add_rule(alloc, rule, kind, number)?;
+        }
+        Ok(())
+    }
 }
 
 impl Patterns<'_> {
@@ -243,6 +264,28 @@ impl Patterns<'_> {
             ≡ record { decision = table.last_decision self.now l; filters = None } ∷ [] }
     {
         self.partial.is_empty()
+    }
+
+    /// Whether the pattern of each leaf of these attributes has one rule, since no rule has a path with a value
+    /// filter on one of them. False may be said of such patterns too: if the rule comes behind one that covers
+    /// the leaf at all values, or if its path is on another sub-attribute.
+    ///
+    /// Where it is true, the visible part of a resource can be told by leaf, without a copy.
+    pub fn is_plain_on(&self, attributes: &[Attribute]) -> bool
+        ensures { result ≡ true → (l : Leaf)
+            → list_any (sameb the_attribute l.attribute) attributes.now ≡ true
+            → rules_in self.now l
+            ≡ record { decision = table.last_decision self.now l; filters = None } ∷ [] }
+    {
+        !self.has_rule_on(attributes)
+    }
+
+    /// Whether some rule has a path with a value filter on one of the attributes.
+    fn has_rule_on(&self, attributes: &[Attribute]) -> bool
+        ensures { result ≡ list_any (λ r. list_any (table.is_on attributes.now) r.filtered.now)
+            self.now.partial.items }
+    {
+        self.partial.iter().any(|rule| rule.is_on(attributes))
     }
 
     /// The decision of the last rule of the leaf's pattern.
@@ -324,9 +367,32 @@ impl Patterns<'_> {
         }
         Ok(self.last.of(leaf))
     }
+
+    /// The decision on the leaf in a value: that of the first rule of the pattern that is for the value. The value
+    /// must be a stored one, with all its fields. For all fields of a value, call [`Patterns::allowed`].
+    #[tactic(auto, unfolding(crate::specs::PatternTable::rules_in, crate::specs::Table::decision))]
+    pub fn decide_in(&self, alloc: Global, leaf: Leaf, value: &Row) -> Result<Decision, NoMemory>
+        ensures { IfOk result (λ d. d ≡ spec.decided_for
+            (λ t. truth_in_value t value.now) (rules_in self.now leaf)) }
+    {
+        let whole = self.last.decided(leaf);
+        for rule in &self.partial {
+            if rule.counts(leaf, whole) && rule.is_for_value(alloc, leaf, value)? {
+                return Ok(rule.decision);
+            }
+        }
+        Ok(self.last.of(leaf))
+    }
 }
 
 impl PartialRule<'_> {
+    /// Whether one of the rule's paths is on one of the attributes.
+    fn is_on(&self, attributes: &[Attribute]) -> bool
+        ensures { result ≡ list_any (table.is_on attributes.now) self.now.filtered.now }
+    {
+        self.filtered.iter().any(|path| path.is_on(attributes))
+    }
+
     /// Whether the rule covers the leaf at some values, and comes before the first that covers it at all values:
     /// the one that decided `whole`.
     fn counts(&self, leaf: Leaf, whole: Option<Decision>) -> bool
@@ -353,6 +419,29 @@ impl PartialRule<'_> {
             }
         }
         Ok(false)
+    }
+
+    /// Whether one of the rule's filters for the leaf matches the value.
+    fn is_for_value(&self, alloc: Global, leaf: Leaf, value: &Row) -> Result<bool, NoMemory>
+        ensures { IfOk result (λ b. b ≡ list_any (λ t. truth_in_value t value.now)
+            (spec.filters_on leaf self.now.filtered.now)) }
+    {
+        for path in self.filtered {
+            if path.covers(leaf) && holds_of(alloc, path.filter(), value)? {
+                return Ok(true);
+            }
+        }
+        Ok(false)
+    }
+}
+
+impl FilteredPath {
+    /// Whether the attribute before the path's brackets is one of these.
+    fn is_on(&self, attributes: &[Attribute]) -> bool
+        ensures { result ≡ table.is_on attributes.now self.now }
+    {
+        let own = self.attribute();
+        attributes.iter().any(|attribute| own == Some(*attribute))
     }
 }
 

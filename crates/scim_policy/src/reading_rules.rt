@@ -4,7 +4,7 @@ ghost use Rattle.scim_schema.specs.declared.Leaf.{Leaf};
 ghost use Rattle.scim_cell.specs.Content.{Content};
 ghost use Rattle.scim_policy.specs.Patterns as spec;
 ghost use Rattle.scim_policy.specs.PatternTable.{rules_in};
-ghost use Rattle.scim_policy.specs.Picked.{rules_by};
+ghost use Rattle.scim_policy.specs.Selected.{rules_by};
 
 use crate::patterns::Patterns;
 use crate::rules::{Policy, Rule};

@@ -4,7 +4,7 @@ ghost use Rattle.std.specs.List.{list_any};
 ghost use denote.Enum.Bare.{sameb};
 ghost use Rattle.scim_schema.specs.contracts.Kind.{the_type as the_kind};
 ghost use Rattle.scim_schema.specs.contracts.Op.{the_type as the_op};
-ghost use Rattle.scim_policy.specs.Decide as spec;
+ghost use Rattle.scim_policy.specs.Fits as spec;
 ghost use Rattle.scim_policy.specs.code.Walk as walk;
 
 use crate::rules::{ClientName, FilteredPath, PolicyPath, Rule, Target};

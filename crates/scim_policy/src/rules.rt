@@ -2,7 +2,7 @@
 ghost use Rattle.std.specs.Prelude.{◌≡◌, ◌≤◌, length};
 ghost use Rattle.scim_schema.specs.declared.limits.TheConstants.{MOST_RULES};
 ghost use Rattle.scim_filter_grammar.specs.Tree.{tree_of};
-ghost use Rattle.scim_policy.specs.Decide.{attribute_before, filtered_on, paths_on};
+ghost use Rattle.scim_policy.specs.Fits.{attribute_before, filtered_on, paths_on};
 ghost use Rattle.scim_policy.specs.Rules as spec;
 
 use scim_cell::Text;

@@ -1,5 +1,5 @@
 -- What each rule adds to a table of patterns.
-use Rattle.std.specs.Prelude.{◌≡◌, ◌≤◌, ℕ, ◌+◌, List, [], ◌∷◌, ◌++◌, map, filter, drop, All, Option, None, Some}
+use Rattle.std.specs.Prelude.{◌≡◌, ◌≤◌, ℕ, Bool, true, false, List, [], ◌∷◌, ◌++◌, map, filter, All, Option, None, Some}
 use Rattle.std.specs.List.{enumerate_from}
 use Rattle.scim_schema.specs.declared.Kind.{Kind}
 use Rattle.scim_schema.specs.declared.Op.TheVariants.{Read}
@@ -8,7 +8,7 @@ use Rattle.scim_cell.specs.Content.{Content}
 use Rattle.scim_policy.specs.declared.rules.Decision.{Decision}
 use Rattle.scim_policy.specs.declared.patterns.Patterns.{Patterns}
 use Rattle.scim_policy.specs.Rules.{FilteredPath, Rule}
-use Rattle.scim_policy.specs.Decide.{filtered_on, fits, paths_on}
+use Rattle.scim_policy.specs.Fits.{filtered_on, fits, paths_on}
 use Rattle.scim_policy.specs.Patterns.{PatternRule, up_to_whole}
 use Rattle.scim_policy.specs.PatternTable.{partial_paths, partial_rules, last_rule}
 use Rattle.scim_policy.specs.Table.{or_else, decided}
@@ -23,6 +23,11 @@ partial_of d (p ∷ ps) = (d, p ∷ ps) ∷ []
 pub record AddsRule (kind : Kind) (r : Rule) (d : Decision) (old new : Patterns) : Type 0 where
   pub last : (l : Leaf) → decided new.last l ≡ or_else (decided old.last l) (by_paths (paths_on kind r.paths) d l)
   pub partial : map partial_paths new.partial.items ≡ map partial_paths old.partial.items ++ partial_of d (filtered_on kind r.paths)
+
+-- the new table is the old one with the rule added if the rule is for reading, else it is the old one
+pub record AddsIf (reads : Bool) (kind : Kind) (r : Rule) (d : Decision) (old new : Patterns) : Type 0 where
+  pub added : reads ≡ true → AddsRule kind r d old new
+  pub same : reads ≡ false → new ≡ old
 
 -- the rules of a pattern behind those that were walked, of the rules that fit: the one that covers the leaf at
 -- all values if it was walked, else the others

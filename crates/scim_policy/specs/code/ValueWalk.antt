@@ -8,7 +8,7 @@ use Rattle.scim_filter.specs.Truth.{truth_in_value}
 use Rattle.scim_policy.specs.declared.rules.Decision.{Decision}
 use Rattle.scim_policy.specs.declared.patterns.MatchingRule.{MatchingRule}
 use Rattle.scim_policy.specs.Rules.{FilteredPath}
-use Rattle.scim_policy.specs.Decide.{covers_in_part}
+use Rattle.scim_policy.specs.Fits.{covers_in_part}
 
 -- whether the path covers a field of the value
 abbrev pub covers_field : List Field → FilteredPath → Bool

@@ -15,7 +15,7 @@ use Rattle.scim_cell.specs.Content.{Content}
 use Rattle.scim_policy.specs.Rules.{Rule}
 use Rattle.scim_policy.specs.declared.rules.PolicyPath.{PolicyPath}
 use Rattle.scim_policy.specs.declared.decisions.Decisions.{Decisions}
-use Rattle.scim_policy.specs.Decide.{covers, names, paths_on, is_target_met, speaks_of}
+use Rattle.scim_policy.specs.Fits.{covers, names, paths_on, is_target_met, speaks_of}
 use Rattle.scim_policy.specs.Table.{or_else, decided}
 
 -- the decision of a path on a leaf: the given decision if the path covers the leaf

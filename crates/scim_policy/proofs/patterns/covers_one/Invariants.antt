@@ -2,7 +2,7 @@ use Rattle.std.proofs.Common.{◌≡◌, drop, map}
 use Rattle.std.specs.List.{list_any}
 use denote.Ref.{Bor}
 use Rattle.scim_policy.specs.Rules.{FilteredPath}
-use Rattle.scim_policy.specs.Decide.{covers_in_part}
+use Rattle.scim_policy.specs.Fits.{covers_in_part}
 use Rattle.scim_policy.proofs.patterns.covers_one.Given as goal
 
 abbrev pub invariant-loop-path : goal.invariant-loop-path

@@ -1,5 +1,5 @@
 use Rattle.std.proofs.Common.{◌≡◌, drop}
-use Rattle.scim_policy.specs.Decide.{holds_on}
+use Rattle.scim_policy.specs.Fits.{holds_on}
 use Rattle.scim_policy.proofs.rule_fit.holds_on.Given as goal
 
 -- the answer for the targets that are left is that for all

@@ -3,7 +3,7 @@ use Rattle.scim_schema.specs.declared.Leaf.{Leaf}
 use Rattle.scim_schema.specs.declared.Unit.{Unit as AttributeUnit}
 use Rattle.scim_schema.specs.Units.{is_same_unit}
 use Rattle.scim_policy.specs.Access.{forbidding}
-use Rattle.scim_policy.specs.Table.{access_in}
+use Rattle.scim_policy.specs.PatternTable.{access_in}
 use Rattle.scim_policy.proofs.AccessLemmas.{denied_at, denied_found, denied_missed, denied_beside}
 use Rattle.scim_policy.proofs.access_rights.Rights.forbidding.Goals as goal
 use Rattle.scim_policy.proofs.access_rights.Rights.forbidding.Goals.{then-eq+else-is_some, else-eq}

@@ -1,5 +1,5 @@
 use Rattle.std.proofs.Common.{◌≡◌, drop}
-use Rattle.scim_policy.specs.Table.{access_in}
+use Rattle.scim_policy.specs.PatternTable.{access_in}
 use Rattle.scim_policy.proofs.AccessLemmas.{denied_at}
 use Rattle.scim_policy.proofs.access_rights.Rights.forbidding.Given as goal
 

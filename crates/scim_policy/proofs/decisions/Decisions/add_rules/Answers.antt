@@ -2,7 +2,7 @@ use Rattle.std.proofs.Common.{◌≡◌, ◌+◌, ◌∙◌, sym, ap, true, Opti
 use Rattle.scim_schema.specs.declared.Kind.{Kind}
 use Rattle.scim_policy.specs.declared.rules.Decision.{Decision}
 use Rattle.scim_policy.specs.Table.{or_else}
-use Rattle.scim_policy.specs.Decide.{paths_on, speaks_of}
+use Rattle.scim_policy.specs.Fits.{paths_on, speaks_of}
 use Rattle.scim_policy.specs.Table.{decided}
 use Rattle.scim_policy.specs.code.Walk.{by_paths, by_rule, by_rules}
 use Rattle.scim_policy.proofs.TableLemmas.{all_known}

@@ -1,4 +1,4 @@
-use Rattle.std.proofs.Common.{◌≡◌, ◌++◌, drop, filter, map}
+use Rattle.std.proofs.Common.{◌≡◌, ◌++◌, drop, map}
 use Rattle.scim_policy.specs.Patterns.{decisions_of}
 use Rattle.scim_policy.specs.PatternTable.{partial_paths, partial_rules}
 use Rattle.scim_policy.proofs.patterns.Patterns.pattern.Given as goal

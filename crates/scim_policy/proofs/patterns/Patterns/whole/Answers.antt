@@ -1,8 +1,8 @@
-use Rattle.std.proofs.Common.{◌≡◌, ◌∙◌, sym, ap, ◌+◌, ◌∷◌, List, true, false}
+use Rattle.std.proofs.Common.{◌≡◌, ◌∙◌, sym, ap, ◌+◌, ◌∷◌, List, true}
 use Rattle.std.specs.Prelude.{not, Option}
 use Rattle.scim_policy.specs.declared.rules.Decision.{Decision}
 use Rattle.scim_policy.specs.Patterns.{PatternRule, decisions_of}
-use Rattle.scim_policy.specs.PatternTable.{counts, partial_paths}
+use Rattle.scim_policy.specs.PatternTable.{partial_paths}
 use Rattle.scim_policy.proofs.TableLemmas.{none_of}
 use Rattle.scim_policy.specs.PatternTable.{partial_paths}
 use Rattle.scim_policy.proofs.PatternLemmas.{rules_from, rules_counted, rules_other, whole_after, whole_passed, whole_still}

@@ -1,9 +1,9 @@
-use Rattle.std.proofs.Common.{◌≡◌, ◌≤◌, ◌∙◌, sym, ap, subst, ℕ, ◌+◌, List, length, map}
+use Rattle.std.proofs.Common.{◌≡◌, ◌≤◌, ◌∙◌, sym, ap, subst, ℕ, ◌+◌, List, map}
 use Rattle.scim_schema.specs.declared.Leaf.{Leaf}
 use Rattle.scim_policy.specs.declared.reading_rules.ReadingRule.{ReadingRule}
 use Rattle.scim_policy.specs.Rules.{Rule}
 use Rattle.scim_policy.specs.PatternTable.{rules_in}
-use Rattle.scim_policy.specs.Picked.{rules_by}
+use Rattle.scim_policy.specs.Selected.{rules_by}
 use Rattle.scim_policy.specs.code.Inside.{reading_rule, AreAbove}
 use Rattle.scim_policy.proofs.ReadingRuleLemmas.{SelectedWalked, map_length, item_there, item_low, selected_start, selected_met, selected_past, selected_end, selected_whole}
 use Rattle.scim_policy.proofs.reading_rules.ReadingRules.patterns.Goals as goal

@@ -3,7 +3,7 @@ use Rattle.scim_schema.specs.declared.Leaf.{Leaf}
 use Rattle.scim_cell.specs.Content.{Content}
 use Rattle.scim_policy.specs.Rules.{Rule}
 use Rattle.scim_policy.specs.Patterns.{pattern_rules}
-use Rattle.scim_policy.specs.Picked.{rules_by}
+use Rattle.scim_policy.specs.Selected.{rules_by}
 use Rattle.scim_policy.specs.code.Inside.{reading_rule, AreAbove}
 use Rattle.scim_policy.proofs.ReadingRuleLemmas.{all_selected, selected_above, selected_give}
 use Rattle.scim_policy.proofs.rules.Policy.reading_rules.Goals as goal

@@ -1,5 +1,5 @@
 use Rattle.std.proofs.Common.{◌≡◌, drop}
-use Rattle.scim_policy.specs.Decide.{filtered_on}
+use Rattle.scim_policy.specs.Fits.{filtered_on}
 use Rattle.scim_policy.proofs.rules.Rule.filtered_on.Given as goal
 
 -- the paths on the kind among the entries that are left are those among all

@@ -1,5 +1,5 @@
 use Rattle.std.proofs.Common.{rules}
-use Rattle.scim_policy.specs.Decide.{speaks_of}
+use Rattle.scim_policy.specs.Fits.{speaks_of}
 use Rattle.scim_policy.proofs.rules.Rule.misfit.Goals as goal
 
 -- by name, so that a body that breaks it is refused at once

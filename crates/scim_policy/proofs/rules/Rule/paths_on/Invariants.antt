@@ -1,5 +1,5 @@
 use Rattle.std.proofs.Common.{◌≡◌, drop}
-use Rattle.scim_policy.specs.Decide.{paths_on}
+use Rattle.scim_policy.specs.Fits.{paths_on}
 use Rattle.scim_policy.proofs.rules.Rule.paths_on.Given as goal
 
 -- the paths on the kind among the entries that are left are those among all

@@ -1,8 +1,8 @@
 use Rattle.std.proofs.Common.{◌∙◌, sym, ap, Bool}
 use Rattle.std.specs.Prelude.{◌&&◌}
 use Rattle.scim_schema.specs.declared.Kind.{Kind}
-use Rattle.scim_policy.specs.Decide.{is_about, is_target_met}
-use Rattle.scim_policy.proofs.SharedLemmas.{speaks_grouped}
+use Rattle.scim_policy.specs.Fits.{is_about, is_target_met}
+use Rattle.scim_policy.proofs.RuleLemmas.{speaks_grouped}
 use Rattle.scim_policy.proofs.rules.Rule.speaks_of.Goals as goal
 
 pub returns-in_ok-is_target_met : goal.returns-in_ok-is_target_met
