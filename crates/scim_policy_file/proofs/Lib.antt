@@ -1,3 +1,4 @@
 pub mod FileLemmas
 pub mod ListLemmas
+pub mod PathLemmas
 pub mod ShapeLemmas

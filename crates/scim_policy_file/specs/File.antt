@@ -7,8 +7,10 @@ use Rattle.scim_schema.specs.declared.limits.TheConstants.{MOST_RULES}
 use Rattle.scim_schema.specs.Lookup.{is_same_text, kind_named, operation_named}
 use Rattle.scim_policy_file.specs.declared.faults.Cause.{Cause}
 use Rattle.scim_policy_file.specs.declared.faults.Cause.TheVariants as cause
-use Rattle.scim_policy_file.specs.declared.faults.Cause.TheVariants.{Shape, Version, TooManyRules}
+use Rattle.scim_policy_file.specs.declared.faults.Cause.TheVariants.{Shape, TooManyRules}
 use Rattle.scim_policy_file.specs.declared.faults.PolicyFault.{PolicyFault}
+use Rattle.scim_policy_file.specs.declared.versions.FileVersion.{FileVersion}
+use Rattle.scim_policy_file.specs.declared.versions.FileVersion.TheVariants.{One, Two}
 use Rattle.scim_policy.specs.Rules.{Rule}
 use Rattle.scim_policy_file.specs.Lists.{each}
 use Rattle.scim_policy_file.specs.Paths.{client_named, paths_named}
@@ -93,12 +95,12 @@ rule_fields d =
 unfoldable pub rule_texts : Json → Option RuleTexts
 rule_texts d = option_and_then rule_fields (object_of_only rule_keys d)
 
--- the rule that these texts describe, or the cause of the first fault; the clients, operations and types are
--- read first, then the target, then the paths
-unfoldable pub rule_named : RuleTexts → Result Rule Cause
-rule_named t =
+-- the rule that these texts describe in a file of a version, or the cause of the first fault; the clients,
+-- operations and types are read first, then the target, then the paths
+unfoldable pub rule_named : FileVersion → RuleTexts → Result Rule Cause
+rule_named version t =
     or_name (each client_named t.clients) >>= λ clients. or_name (each operation_named t.ops) >>= λ ops. or_name (each kind_named t.types) >>= λ kinds.
-    targets_for kinds t.target >>= λ targets. or_name (paths_named kinds t.paths) >>= λ paths.
+    targets_for kinds t.target >>= λ targets. paths_named version ops kinds t.paths >>= λ paths.
     Ok (record { allow = t.allow; clients = clients; ops = ops; kinds = kinds; targets = targets; paths = paths })
 
 -- the rule, or the fault with this cause and the rule's number
@@ -107,13 +109,13 @@ named_or_fault n (Err cause) = Err (record { rule = n; cause = cause })
 named_or_fault n (Ok r) = Ok r
 
 -- the n-th rule, which the texts describe, or its first fault; the fault `Shape` if there are no texts
-abbrev pub shaped_or_fault : ℕ → Option RuleTexts → Says Rule
-shaped_or_fault n None = Err (record { rule = n; cause = Shape })
-shaped_or_fault n (Some t) = named_or_fault n (rule_named t)
+abbrev pub shaped_or_fault : FileVersion → ℕ → Option RuleTexts → Says Rule
+shaped_or_fault version n None = Err (record { rule = n; cause = Shape })
+shaped_or_fault version n (Some t) = named_or_fault n (rule_named version t)
 
--- the n-th rule, or its fault
-abbrev pub rule_of : ℕ → Json → Says Rule
-rule_of n d = shaped_or_fault n (rule_texts d)
+-- the n-th rule of a file of a version, or its fault
+abbrev pub rule_of : FileVersion → ℕ → Json → Says Rule
+rule_of version n d = shaped_or_fault version n (rule_texts d)
 
 -- the list of a rule and the rules after it, or the first fault among all of them
 abbrev pub and_then : Says Rule → Says (List Rule) → Says (List Rule)
@@ -122,9 +124,9 @@ and_then (Ok r) (Err f) = Err f
 and_then (Ok r) (Ok rs) = Ok (r ∷ rs)
 
 -- the rules from the n-th on, or the fault of the first faulty rule
-abbrev pub rules_from : ℕ → List Json → Says (List Rule)
-rules_from n [] = Ok []
-rules_from n (d ∷ ds) = and_then (rule_of n d) (rules_from (n + 1) ds)
+abbrev pub rules_from : FileVersion → ℕ → List Json → Says (List Rule)
+rules_from version n [] = Ok []
+rules_from version n (d ∷ ds) = and_then (rule_of version n d) (rules_from version (n + 1) ds)
 
 -- ---- files
 
@@ -161,13 +163,19 @@ parts_in d =
 unfoldable pub file_parts : Json → Option Parts
 file_parts d = option_and_then parts_in (object_of_only file_keys d)
 
--- the rules of a file, or its first fault: `Version` if the version isn't spelled `1`, `TooManyRules` if
+-- the version with this number; None for any other text than `1` and `2`
+abbrev pub version_named : List ℕ → Option FileVersion
+version_named t = if is_same_text t (codes "1") then Some One else (if is_same_text t (codes "2") then Some Two else None)
+
+-- the rules of a file of a version, or its first fault: `Version` if there is no such version, `TooManyRules` if
 -- there are more than 1,000 rules, or the first fault of a rule
+abbrev pub rules_in_version : Option FileVersion → List Json → Says (List Rule)
+rules_in_version None ds = Err (record { rule = 0; cause = cause.Version })
+rules_in_version (Some version) ds = if nat_lt MOST_RULES (length ds) then Err (record { rule = 0; cause = TooManyRules }) else rules_from version 1 ds
+
+-- the rules of a file, or its first fault
 abbrev pub rules_or_fault : Parts → Says (List Rule)
-rules_or_fault p =
-    if is_same_text p.version (codes "1")
-    then (if nat_lt MOST_RULES (length p.rules) then Err (record { rule = 0; cause = TooManyRules }) else rules_from 1 p.rules)
-    else Err (record { rule = 0; cause = Version })
+rules_or_fault p = rules_in_version (version_named p.version) p.rules
 
 -- the rules of a file with this version and these rules, or its first fault; the fault `Shape` if there is
 -- neither

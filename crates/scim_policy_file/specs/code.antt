@@ -1,2 +1,3 @@
 -- Definitions for the code that reads policy files.
+pub mod Standings
 pub mod Written

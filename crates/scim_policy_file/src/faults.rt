@@ -11,7 +11,7 @@ pub enum Cause {
     /// missing or unknown.
     #[error("shape")]
     Shape,
-    /// The version is an integer other than 1, of any size.
+    /// The version is an integer other than 1 and 2, of any size.
     #[error("version")]
     Version,
     /// There are more than 1,000 rules.
@@ -27,6 +27,9 @@ pub enum Cause {
     /// A target names `groups`, `password` or `meta`.
     #[error("target names groups, password or meta")]
     TargetNames,
+    /// A path has a value filter, and the rule has another operation than read, or the filter is on `groups`.
+    #[error("value filter")]
+    ValueFilter,
 }
 
 /// The reason why a policy file is refused. `rule` is the number of the faulty rule, from 1, or 0 if the file

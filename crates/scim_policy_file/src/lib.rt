@@ -8,6 +8,7 @@ mod faults;
 mod policy_files;
 mod rule_paths;
 mod rule_targets;
+mod versions;
 
 pub use client_names::is_client_name;
 pub use faults::{Cause, PolicyFault};

@@ -15,6 +15,7 @@ use crate::client_names::client_named;
 use crate::faults::{Cause, PolicyFault};
 use crate::rule_paths::paths_named;
 use crate::rule_targets::targets_for;
+use crate::versions::{FileVersion, version_named};
 use json::{Error, Scratch, Value};
 use scim_policy::{ClientName, Policy, Rule};
 use scim_schema::{Kind, MOST_RULES, Op};
@@ -31,6 +32,13 @@ struct FileParts<'v, 't> {
     rules: &'v [Value<'t>],
 }
 
+/// The version of a policy file, and its rules as JSON.
+#[derive(Clone, Copy)]
+struct FileRules<'v, 't> {
+    version: FileVersion,
+    rules: &'v [Value<'t>],
+}
+
 /// A rule as it is written in the file.
 #[derive(Drop)]
 struct WrittenRule<'v> {
@@ -42,7 +50,7 @@ struct WrittenRule<'v> {
     paths: Vec<&'v str>,
 }
 
-/// Reads a policy file: a JSON object with `version` 1 and `rules`, a list of at most 1,000 rules.
+/// Reads a policy file: a JSON object with `version`, 1 or 2, and `rules`, a list of at most 1,000 rules.
 ///
 /// A rule is an object with `allow` (a boolean), `clients` (names, or `*` for everyone), `ops` (`read`,
 /// `create`, `modify`, `delete`), `types` (`User`, `Group`) and `paths` (`*`, an attribute, or
@@ -52,9 +60,13 @@ struct WrittenRule<'v> {
 /// types, and must not be `groups`, `password` or `meta`. On a type without that attribute, the name has no
 /// value.
 ///
+/// In version 2 a path may be a value path too, `attribute[filter]` or `attribute[filter].subAttribute`, as in
+/// a PATCH operation (RFC 7644 section 3.5.2), if the rule's only operation is `read`; but not on `groups`.
+///
 /// Fails with the first fault. Faults of the file (rule 0) come first, in the order of [`Cause`], then the
 /// faults of each rule in turn. Within a rule the order is: `Shape`; `Name` for the clients, the operations
-/// and the types; `Target`, `Name` and `TargetNames` for the target; and `Name` for the paths.
+/// and the types; `Target`, `Name` and `TargetNames` for the target; and `Name` or `ValueFilter` for the first
+/// faulty path.
 #[tactic(auto, unfolding(crate::specs::File::policy_of))]
 pub fn read_policy(alloc: Global, text: &str) -> Result<Policy, Failed<PolicyFault>>
     ensures { UnlessMemory (λ r. spec.policy_of text.now ≡ r) result }
@@ -62,7 +74,7 @@ pub fn read_policy(alloc: Global, text: &str) -> Result<Policy, Failed<PolicyFau
     let mut scratch = Scratch::new(alloc);
     let value = parse(alloc, text, &mut scratch)?;
     match file_rules(&value) {
-        Ok(rules) => Ok(Policy::of(read_rules(alloc, rules)?)),
+        Ok(file) => Ok(Policy::of(read_rules(alloc, file.version, file.rules)?)),
         Err(cause) => Err(Failed::Because(PolicyFault { rule: 0, cause })),
     }
 }
@@ -89,14 +101,14 @@ fn parse<'t>(
     }
 }
 
-/// The rules of a file as JSON, at most 1,000.
+/// The version of a file and its rules as JSON, at most 1,000.
 ///
 /// Fails with `Shape` if the file has the wrong keys or types or no rules, else with `Version` if the version
-/// isn't 1, else with `TooManyRules` if there are more than 1,000 rules.
-fn file_rules<'v, 't>(value: &'v Value<'t>) -> Result<&'v [Value<'t>], Cause>
-    ensures rules { IfOk result (λ vs. spec.policy_in (value_view value.now)
-        ≡ spec.rules_from 1 (map value_view vs.now)) }
-    ensures few { IfOk result (λ vs. length vs.now ≤ MOST_RULES) }
+/// is neither 1 nor 2, else with `TooManyRules` if there are more than 1,000 rules.
+fn file_rules<'v, 't>(value: &'v Value<'t>) -> Result<FileRules<'v, 't>, Cause>
+    ensures rules { IfOk result (λ f. spec.policy_in (value_view value.now)
+        ≡ spec.rules_from f.version 1 (map value_view f.rules.now)) }
+    ensures few { IfOk result (λ f. length f.rules.now ≤ MOST_RULES) }
     ensures faulty { IfErr result
         (λ cause. spec.policy_in (value_view value.now)
         ≡ Err (record { rule = 0; cause = cause })) }
@@ -104,13 +116,16 @@ fn file_rules<'v, 't>(value: &'v Value<'t>) -> Result<&'v [Value<'t>], Cause>
     let Some(parts) = file_parts(value) else {
         return Err(Cause::Shape);
     };
-    if parts.version != "1" {
+    let Some(version) = version_named(parts.version) else {
         return Err(Cause::Version);
-    }
+    };
     if parts.rules.len() > MOST_RULES {
         return Err(Cause::TooManyRules);
     }
-    Ok(parts.rules)
+    Ok(FileRules {
+        version,
+        rules: parts.rules,
+    })
 }
 
 /// The version and the rules of a file. `None` if the value isn't an object, a key is missing or unknown, the
@@ -211,21 +226,26 @@ fn items_in<'v, 't>(value: &'v Value<'t>) -> Option<&'v [Value<'t>]>
     Some(items)
 }
 
-/// Reads all rules, numbered from 1.
+/// Reads all rules of a file of this version, numbered from 1.
 ///
 /// Fails with the first fault of the first faulty rule.
-fn read_rules(alloc: Global, values: &[Value<'_>]) -> Result<Vec<Rule>, Failed<PolicyFault>>
+fn read_rules(
+    alloc: Global,
+    version: FileVersion,
+    values: &[Value<'_>],
+) -> Result<Vec<Rule>, Failed<PolicyFault>>
     requires { length values.now ≤ MOST_RULES }
-    ensures rules { IfOk result (λ v. spec.rules_from 1 (map value_view values.now) ≡ Ok v.items) }
+    ensures rules { IfOk result (λ v. spec.rules_from version 1 (map value_view values.now)
+        ≡ Ok v.items) }
     ensures count { IfOk result (λ v. length v.items ≡ length values.now) }
-    ensures faulty { IfFault result (λ fault. spec.rules_from 1 (map value_view values.now)
+    ensures faulty { IfFault result (λ fault. spec.rules_from version 1 (map value_view values.now)
         ≡ Err fault) }
 {
     let mut rules = Vec::new(alloc);
     let mut number = 0;
     for value in values {
         number += 1;
-        push(&mut rules, read_rule(alloc, value, number)?)?;
+        push(&mut rules, read_rule(alloc, version, value, number)?)?;
     }
     Ok(rules)
 }
@@ -233,9 +253,14 @@ fn read_rules(alloc: Global, values: &[Value<'_>]) -> Result<Vec<Rule>, Failed<P
 /// Reads the rule with this number.
 ///
 /// Fails with the first fault of the rule.
-fn read_rule(alloc: Global, value: &Value<'_>, number: u32) -> Result<Rule, Failed<PolicyFault>>
-    ensures rule { IfOk result (λ r. spec.rule_of number (value_view value.now) ≡ Ok r) }
-    ensures faulty { IfFault result (λ fault. spec.rule_of number (value_view value.now)
+fn read_rule(
+    alloc: Global,
+    version: FileVersion,
+    value: &Value<'_>,
+    number: u32,
+) -> Result<Rule, Failed<PolicyFault>>
+    ensures rule { IfOk result (λ r. spec.rule_of version number (value_view value.now) ≡ Ok r) }
+    ensures faulty { IfFault result (λ fault. spec.rule_of version number (value_view value.now)
         ≡ Err fault) }
 {
     let Some(written) = written_rule(alloc, value)? else {
@@ -244,7 +269,7 @@ fn read_rule(alloc: Global, value: &Value<'_>, number: u32) -> Result<Rule, Fail
             cause: Cause::Shape,
         }));
     };
-    match rule_named(alloc, &written) {
+    match rule_named(alloc, version, &written) {
         Ok(rule) => Ok(rule),
         Err(Failed::Because(cause)) => Err(Failed::Because(PolicyFault {
             rule: number,
@@ -386,8 +411,12 @@ fn texts_of<'t>(alloc: Global, items: &[Value<'t>]) -> Result<Option<Vec<&'t str
 ///
 /// Fails with the cause of the first fault in that order.
 #[tactic(auto, unfolding(crate::specs::File::rule_named))]
-fn rule_named(alloc: Global, written: &WrittenRule<'_>) -> Result<Rule, Failed<Cause>>
-    ensures { Gives (λ r. r) result (spec.rule_named (rule_view written.now)) }
+fn rule_named(
+    alloc: Global,
+    version: FileVersion,
+    written: &WrittenRule<'_>,
+) -> Result<Rule, Failed<Cause>>
+    ensures { Gives (λ r. r) result (spec.rule_named version (rule_view written.now)) }
 {
     let Some(clients) = clients_named(alloc, &written.clients)? else {
         return Err(NO_NAME);
@@ -399,9 +428,7 @@ fn rule_named(alloc: Global, written: &WrittenRule<'_>) -> Result<Rule, Failed<C
         return Err(NO_NAME);
     };
     let targets = targets_for(alloc, &kinds, written.target)?;
-    let Some(paths) = paths_named(alloc, &kinds, &written.paths)? else {
-        return Err(NO_NAME);
-    };
+    let paths = paths_named(alloc, version, &ops, &kinds, &written.paths)?;
     Ok(Rule::new(written.allow, clients, ops, kinds, targets, paths))
 }
 

@@ -11,5 +11,5 @@ loop-value-preserved c =
     let r = c.in_ok-read_rule.field-0 in
     let items : c.push.new.values.items ≡ rules ++ r ∷ [] = c.in_ok-push.ensures.items in
     let long : length c.push.new.values.items ≡ length rules + 1 = ap (λ (rs : List Rule). length rs) items ∙ length_push rules r in
-    let more : AreRead (rules ++ r ∷ []) (i + 1) c.args.values.now = read_more rules i c.loop-value.number c.args.values.now c.value-item.result r c.loop-value-test.true c.value-item.is c.loop-value.invariant.0 c.in_ok-read_rule.ensures.rule c.loop-value.invariant.2 in
-    (ap (λ (n : ℕ). n + 1) c.loop-value.invariant.0, long ∙ ap (λ (n : ℕ). n + 1) c.loop-value.invariant.1, subst (λ (rs : List Rule). AreRead rs (i + 1) c.args.values.now) (sym items) more)
+    let more : AreRead c.args.version (rules ++ r ∷ []) (i + 1) c.args.values.now = read_more c.args.version rules i c.loop-value.number c.args.values.now c.value-item.result r c.loop-value-test.true c.value-item.is c.loop-value.invariant.0 c.in_ok-read_rule.ensures.rule c.loop-value.invariant.2 in
+    (ap (λ (n : ℕ). n + 1) c.loop-value.invariant.0, long ∙ ap (λ (n : ℕ). n + 1) c.loop-value.invariant.1, subst (λ (rs : List Rule). AreRead c.args.version rs (i + 1) c.args.values.now) (sym items) more)
