@@ -23,7 +23,7 @@ use Rattle.scim_policy.specs.declared.rules.ClientName.TheVariants.{Everyone, Na
 use Rattle.scim_policy.specs.declared.rules.PolicyPath.{PolicyPath}
 use Rattle.scim_policy.specs.declared.rules.PolicyPath.TheVariants.{Everything, Attribute, SubAttribute}
 use Rattle.scim_policy.specs.Rules.{FilteredPath, Rule}
-use Rattle.scim_policy.specs.Decide.{attribute_before, covers, covers_in, covers_in_part, covers_partly, filtered_on, fits, fits_wholly, is_after, is_target_met, names, paths_on, speaks_of}
+use Rattle.scim_policy.specs.Fits.{attribute_before, covers, covers_in, covers_in_part, covers_partly, filtered_on, fits, fits_wholly, is_after, is_target_met, names, paths_on, speaks_of}
 use Rattle.scim_explain.specs.Idle.{are_covered, covers_client, covers_filtered, covers_on_kind, covers_path, covers_rule, is_none_or_covered, path_of}
 
 both : (p q : Bool) → p ≡ true → q ≡ true → p && q ≡ true

@@ -10,7 +10,7 @@ use Rattle.scim_schema.proofs.Facts.{and_first, and_second}
 use Rattle.scim_cell.specs.Content.{Content}
 use Rattle.scim_policy.specs.declared.misfits.Misfit.{Misfit}
 use Rattle.scim_policy.specs.Rules.{Rule}
-use Rattle.scim_policy.specs.Decide.{covers_in, speaks_of, fits, fits_wholly, first_of, misfit_of, decide}
+use Rattle.scim_policy.specs.Fits.{covers_in, speaks_of, decide_wholly, fits, fits_wholly, first_of, misfit_of}
 use Rattle.scim_explain.proofs.ListLemmas.{front_fails, left_out}
 use Rattle.scim_explain.specs.declared.explanations.Earlier.{Earlier}
 use Rattle.scim_explain.specs.Explain.{Explanation, entry_of, explained}
@@ -35,7 +35,7 @@ behind_none done e none =
     λ i. record { entries = entries i; decision = e.decision }
 
 pub told_policy : (policy : List Rule) (client : List ℕ) (op : Op) (c : Content) (l : Leaf) → told_from client op c l 1 policy ≡ explained policy client op c l
-unfolding decide
+unfolding decide_wholly
 told_policy policy client op c l = refl
 
 misfit_in : (o : Option Misfit) (b : Bool) → is_some o ≡ not b → b ≡ false → (m : Misfit) × (o ≡ Some m)

@@ -1,10 +1,10 @@
 -- Idle rules, one after another, and that they never decide.
-use Rattle.std.proofs.Common.{◌≡◌, refl, sym, subst, ap, ◌∙◌, ℕ, zero, suc, ◌+◌, ◌-◌, ◌<◌, ◌≤◌, Bool, true, false, List, [], ◌∷◌, length, get_or, take, inl, inr, arith}
-use Rattle.std.specs.Prelude.{All, Option, Some, None, ◌≢◌, filter, option_map, position}
+use Rattle.std.proofs.Common.{◌≡◌, refl, sym, subst, ap, ◌∙◌, ℕ, zero, suc, ◌+◌, ◌-◌, ◌<◌, ◌≤◌, Bool, true, false, List, [], ◌∷◌, ◌++◌, length, get_or, take, inl, inr, arith}
+use Rattle.std.specs.Prelude.{All, Option, Some, None, ◌≢◌, not, filter, option_map, position}
 use Rattle.std.specs.List.{filter_map, cons_option, enumerate_from}
 use Rattle.std.proofs.lemmas.Bool.{cases_Bool}
 use Rattle.std.proofs.lemmas.List.{get_or-take, length-take}
-use Rattle.std.proofs.lemmas.List.Elements.{All-nil, All-cons, All-weaker}
+use Rattle.std.proofs.lemmas.List.Elements.{All-nil, All-cons, All-head, All-append, All-filter, All-weaker}
 use Rattle.std.proofs.lemmas.List.FromFn.{get_or-enumerate_from, length-enumerate_from}
 use Rattle.std.proofs.lemmas.List.Quantifiers.{position-Some}
 use Rattle.scim_schema.specs.declared.Op.{Op}
@@ -13,8 +13,9 @@ use Rattle.scim_schema.specs.declared.Leaf.{Leaf}
 use Rattle.scim_cell.specs.Content.{Content}
 use Rattle.scim_policy.specs.declared.rules.Decision.{Decision}
 use Rattle.scim_policy.specs.Rules.{Rule}
-use Rattle.scim_policy.specs.Decide.{decide, first_of, fits, fits_wholly}
-use Rattle.scim_policy.specs.Patterns.{decide_at, pattern, pattern_rules}
+use Rattle.scim_policy.specs.Fits.{decide_wholly, first_of, fits, fits_wholly}
+use Rattle.scim_policy.specs.Decide.{decide}
+use Rattle.scim_policy.specs.Patterns.{decide_at, first_or_denied, pattern, pattern_rules, whole_decision}
 use Rattle.scim_explain.specs.declared.never_deciding.IdleRule.{IdleRule}
 use Rattle.scim_explain.specs.Idle.{covers_rule, idle_behind, idle_rules}
 use Rattle.scim_explain.proofs.CoverLemmas.{covering_fits}
@@ -117,10 +118,11 @@ covering policy k d y less e =
     let covered : covers_rule (get_or policy place.0 d) (get_or policy k d) ≡ true = sym (ap (λ (r : Rule). covers_rule r (get_or policy k d)) (get_or-take k policy place.0 d before)) ∙ found.1 in
     (place.0, (before, covered, place.1.1))
 
-pub never_deciding : (policy : List Rule) (client : List ℕ) (op : Op) (c : Content) (l : Leaf) → All (λ (idle : IdleRule). (decide policy client op c l).rule ≢ idle.rule) (idle_rules policy)
-unfolding decide
-never_deciding policy client op c l =
-    all_idle policy (λ (idle : IdleRule). (decide policy client op c l).rule ≢ idle.rule)
+-- it isn't the first that fits and covers the leaf at all values
+never_wholly : (policy : List Rule) (client : List ℕ) (op : Op) (c : Content) (l : Leaf) → All (λ (idle : IdleRule). (decide_wholly policy client op c l).rule ≢ idle.rule) (idle_rules policy)
+unfolding decide_wholly
+never_wholly policy client op c l =
+    all_idle policy (λ (idle : IdleRule). (decide_wholly policy client op c l).rule ≢ idle.rule)
     (λ k d y less e decides.
     let by = covering policy k d y less e in
     not_behind (fits_wholly client op c l) 1 policy by.0 k d (omega arith) by.1.0 less
@@ -154,6 +156,27 @@ in_no_pattern_of policy client c l k d y less e =
 pub in_no_pattern : (policy : List Rule) (client : List ℕ) (c : Content) (l : Leaf) → All (λ (idle : IdleRule). All (λ (d : Decision). d.rule ≢ idle.rule) (pattern policy client c l)) (idle_rules policy)
 in_no_pattern policy client c l =
     all_idle policy (λ (idle : IdleRule). All (λ (d : Decision). d.rule ≢ idle.rule) (pattern policy client c l)) (λ k d y less e. in_no_pattern_of policy client c l k d y less e)
+
+-- what is true of a denial by rule 0 and of all decisions is true of the decision on all values
+whole_is : (P : Decision → Type 0) (ds : List Decision) → P (record { rule = 0; allow = false }) → All P ds → P (whole_decision ds)
+whole_is P ds denied all = first_all (filter (λ (d : Decision). not d.allow) ds ++ ds) (All-append P (filter (λ (d : Decision). not d.allow) ds) ds (All-filter (λ (d : Decision). not d.allow) P ds all) all)
+  where
+    first_all : (es : List Decision) → All P es → P (first_or_denied es)
+    first_all [] each = denied
+    first_all (e ∷ es) each = All-head P e es each
+
+never_whole : (policy : List Rule) (client : List ℕ) (c : Content) (l : Leaf) → All (λ (idle : IdleRule). (whole_decision (pattern policy client c l)).rule ≢ idle.rule) (idle_rules policy)
+never_whole policy client c l =
+    all_idle policy (λ (idle : IdleRule). (whole_decision (pattern policy client c l)).rule ≢ idle.rule)
+    (λ k d y less e.
+    whole_is (λ (g : Decision). g.rule ≢ y.rule) (pattern policy client c l)
+    (λ none. absurd (omega (arith, none, (covering policy k d y less e).1.2)))
+    (in_no_pattern_of policy client c l k d y less e))
+
+pub never_deciding : (policy : List Rule) (client : List ℕ) (op : Op) (c : Content) (l : Leaf) → All (λ (idle : IdleRule). (decide policy client op c l).rule ≢ idle.rule) (idle_rules policy)
+unfolding decide
+never_deciding policy client Read c l = never_whole policy client c l
+never_deciding policy client op c l = never_wholly policy client op c l
 
 pub no_value : (policy : List Rule) (client : List ℕ) (c : Content) (l : Leaf) (place : ℕ) → All (λ (idle : IdleRule). (decide_at policy client c l place).rule ≢ idle.rule) (idle_rules policy)
 unfolding decide_at

@@ -9,7 +9,7 @@ use Rattle.scim_schema.specs.declared.Leaf.{Leaf}
 use Rattle.scim_cell.specs.Content.{Content}
 use Rattle.scim_policy.specs.declared.rules.Decision.{Decision}
 use Rattle.scim_policy.specs.Rules.{Rule}
-use Rattle.scim_policy.specs.Decide.{fits_wholly, first_of, decide}
+use Rattle.scim_policy.specs.Fits.{decide_wholly, fits_wholly, first_of}
 use Rattle.scim_explain.specs.Explain.{entry_of, explained}
 use Rattle.scim_explain.specs.Laws.{rules_before}
 use Rattle.scim_explain.proofs.ListLemmas.{front_fails, front_passes, left_out, none_passes}
@@ -60,11 +60,11 @@ module _ (policy : List Rule) (client : List ℕ) (op : Op) (c : Content) (l : L
 
   -- the rules that an explanation tells of are those before the first that fits and covers the leaf at all values
   before_is : rules_before policy (explained policy client op c l) ≡ front
-  unfolding decide
+  unfolding decide_wholly
   before_is = elim (first_number (fits_wholly client op c l) 1 policy) [ inl none ↦ rw none.0 (sym none.1) | inr one ↦ above_zero (explained policy client op c l).decision.rule (length front) policy (λ n. take n policy) one.0 ∙ one.1 ]
 
   pub as_many : length (explained policy client op c l).entries ≡ (if (explained policy client op c l).decision.rule == 0 then length policy else (explained policy client op c l).decision.rule - 1)
-  unfolding decide
+  unfolding decide_wholly
   as_many = length-map front (entry_of client op c l) ∙ elim (first_number (fits_wholly client op c l) 1 policy) [ inl none ↦ rw none.0 (ap length none.1) | inr one ↦ sym (above_zero (explained policy client op c l).decision.rule (length front) (length policy) (λ n. n) one.0) ]
 
   pub own_entries : (explained policy client op c l).entries ≡ map (entry_of client op c l) (rules_before policy (explained policy client op c l))

@@ -11,7 +11,7 @@ use Rattle.scim_cell.specs.Content.{Content}
 use Rattle.scim_policy.specs.declared.misfits.Misfit.{Misfit}
 use Rattle.scim_policy.specs.declared.rules.Decision.{Decision}
 use Rattle.scim_policy.specs.Rules.{Rule}
-use Rattle.scim_policy.specs.Decide.{covers_in, covers_partly, fits, fits_wholly, speaks_of, decide}
+use Rattle.scim_policy.specs.Fits.{covers_in, covers_partly, decide_wholly, fits, fits_wholly, speaks_of}
 use Rattle.scim_policy.specs.Patterns.{decisions_of, pattern, pattern_rules, up_to_whole}
 use Rattle.scim_explain.specs.Explain.{Explanation, entry_of, entry_with, explained, part_of, parts, parts_from}
 use Rattle.scim_explain.proofs.ExplainLemmas.{first_decides, first_waits, no_misfit, own_misfit, told_from, whole_fits}
@@ -95,7 +95,7 @@ module _ (client : List ℕ) (c : Content) (l : Leaf) where
   ]
 
 pub tells_pattern : (policy : List Rule) (client : List ℕ) (c : Content) (l : Leaf) → parts (explained policy client Read c l) ++ (explained policy client Read c l).decision ∷ [] ≡ pattern policy client c l
-unfolding decide pattern_rules
+unfolding decide_wholly pattern_rules
 tells_pattern policy client c l = tells_from client c l 1 policy
 
 -- ---- other operations

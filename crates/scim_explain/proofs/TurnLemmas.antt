@@ -8,7 +8,7 @@ use Rattle.scim_schema.specs.declared.Leaf.{Leaf}
 use Rattle.scim_cell.specs.Content.{Content}
 use Rattle.scim_policy.specs.declared.rules.Decision.{Decision}
 use Rattle.scim_policy.specs.Rules.{Rule}
-use Rattle.scim_policy.specs.Decide.{fits, fits_wholly}
+use Rattle.scim_policy.specs.Fits.{fits, fits_wholly}
 use Rattle.scim_policy.specs.Patterns.{PatternRule, decisions_of, first_or_denied, pattern, pattern_rules}
 use Rattle.scim_explain.proofs.ExplainLemmas.{whole_fits}
 use Rattle.scim_explain.proofs.PartLemmas.{pattern_ends, pattern_from, pattern_goes_on, pattern_passes}

@@ -7,7 +7,7 @@ use Rattle.scim_cell.specs.Content.{Content}
 use Rattle.scim_policy.specs.declared.misfits.Misfit.{Misfit}
 use Rattle.scim_policy.specs.declared.rules.Decision.{Decision}
 use Rattle.scim_policy.specs.Rules.{Rule}
-use Rattle.scim_policy.specs.Decide.{fits_wholly, misfit_of, decide}
+use Rattle.scim_policy.specs.Fits.{decide_wholly, fits_wholly, misfit_of}
 use Rattle.scim_explain.specs.declared.explanations.Earlier.{Earlier}
 use Rattle.scim_explain.specs.declared.explanations.Earlier.TheVariants as earlier
 
@@ -25,12 +25,12 @@ pub record Explanation : Type 0 where
   pub entries : List Earlier
   pub decision : Decision
 
--- the decision of a policy, with the entries of the rules before the first that fits and covers the leaf at all
--- values, or of all rules if there is none
+-- the decision of the first rule that fits and covers the leaf at all values, which for reading is the last of the
+-- leaf's pattern; with the entries of the rules before it, or of all rules if there is none
 abbrev pub explained : List Rule → List ℕ → Op → Content → Leaf → Explanation
 explained policy client op c l = record {
   entries = map (entry_of client op c l) (before_first (fits_wholly client op c l) policy);
-  decision = decide policy client op c l;
+  decision = decide_wholly policy client op c l;
 }
 
 -- what the rule with this number decides in part, by its entry; None if it doesn't fit

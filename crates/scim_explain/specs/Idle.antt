@@ -14,7 +14,7 @@ use Rattle.scim_policy.specs.declared.rules.ClientName.TheVariants.{Everyone, Na
 use Rattle.scim_policy.specs.declared.rules.PolicyPath.{PolicyPath}
 use Rattle.scim_policy.specs.declared.rules.PolicyPath.TheVariants.{Everything, Attribute, SubAttribute}
 use Rattle.scim_policy.specs.Rules.{FilteredPath, Rule}
-use Rattle.scim_policy.specs.Decide.{attribute_before, filtered_on, paths_on}
+use Rattle.scim_policy.specs.Fits.{attribute_before, filtered_on, paths_on}
 use Rattle.scim_explain.specs.declared.never_deciding.IdleRule.{IdleRule}
 use Rattle.scim_explain.specs.Texts.{rule_line}
 

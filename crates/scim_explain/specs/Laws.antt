@@ -6,7 +6,8 @@ use Rattle.scim_schema.specs.declared.Leaf.{Leaf}
 use Rattle.scim_cell.specs.Content.{Content}
 use Rattle.scim_policy.specs.declared.rules.Decision.{Decision}
 use Rattle.scim_policy.specs.Rules.{Rule}
-use Rattle.scim_policy.specs.Decide.{fits, fits_wholly, decide}
+use Rattle.scim_policy.specs.Fits.{fits, fits_wholly}
+use Rattle.scim_policy.specs.Decide.{decide}
 use Rattle.scim_policy.specs.Patterns.{decide_at, pattern}
 use Rattle.scim_explain.specs.declared.never_deciding.IdleRule.{IdleRule}
 use Rattle.scim_explain.specs.Explain.{Explanation, entry_of, explained, parts}

@@ -20,6 +20,6 @@ abbrev pub decision_lines : (Leaf → Decision) → List Leaf → List ℕ
 decision_lines decided ls = flat_map (λ l. decision_line l (decided l)) ls
 
 -- the decisions of a policy on a client's operation on a resource, a line for each leaf of its kind, in
--- order
+-- order; for reading, the decisions on the leaves in all their values
 abbrev pub table : List Rule → List ℕ → Op → Content → List ℕ
 table policy client op c = decision_lines (decide policy client op c) (leaves c.kind)

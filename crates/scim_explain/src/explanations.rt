@@ -1,6 +1,6 @@
 //! Explains single decisions.
 ghost use Rattle.std.specs.Prelude.{◌≡◌, None, Some, IfOk, if◌then◌else◌};
-ghost use Rattle.scim_policy.specs.Decide.{fits_wholly};
+ghost use Rattle.scim_policy.specs.Fits.{fits_wholly};
 ghost use Rattle.scim_explain.specs.Explain as spec;
 
 use scim_policy::{Decision, Misfit, Policy, Rule};
@@ -58,7 +58,8 @@ impl Explanation {
     }
 }
 
-/// Explains the policy's decision on the client's operation on a leaf of the resource.
+/// Explains the policy's decision on the client's operation on a leaf of the resource: the first rule that fits
+/// and covers the leaf at all values decides. For reading, rules before it may decide on some values.
 ///
 /// Each rule up to the first that fits and covers the leaf at all values is checked once.
 pub fn explain(

@@ -11,7 +11,7 @@ use Rattle.scim_policy.specs.declared.rules.ClientName.TheVariants.{Everyone, Na
 use Rattle.scim_policy.specs.declared.rules.PolicyPath.{PolicyPath}
 use Rattle.scim_policy.specs.declared.rules.PolicyPath.TheVariants.{Everything, Attribute, SubAttribute}
 use Rattle.scim_policy.specs.Rules.{Target, FilteredPath, Rule}
-use Rattle.scim_policy.specs.Decide.{filtered_on, paths_on}
+use Rattle.scim_policy.specs.Fits.{filtered_on, paths_on}
 use Rattle.scim_policy_sentences.specs.Lists.{joined, listed}
 use Rattle.scim_policy_sentences.specs.Targets.{target_on, tree_text}
 use Rattle.scim_explain.specs.Texts.{effect_word, rule_line}
