@@ -1,6 +1,6 @@
 -- What a test leaves of some attributes alone is what it leaves of them in the whole, whatever groups list the resource.
 use Rattle.std.proofs.Common.{◌≡◌, arith, refl, sym, ◌∙◌, ap, subst, ℕ, zero, suc, Bool, true, false, ◌&&◌, inl, inr, List, [], ◌∷◌, ◌++◌, map, filter}
-use Rattle.std.specs.Prelude.{All, AllPairs}
+use Rattle.std.specs.Prelude.{not, All, AllPairs, None}
 use Rattle.std.specs.List.{list_any}
 use Rattle.std.specs.declared.cmp.Ordering.{Ordering}
 use Rattle.std.specs.declared.cmp.Ordering.TheVariants.{Less, Equal, Greater}
@@ -8,6 +8,8 @@ use Rattle.std.specs.Ordering.{is_lt, is_eq, is_gt}
 use Rattle.std.proofs.lemmas.Bool.{cases_Bool, or_parts}
 use Rattle.std.proofs.lemmas.List.Elements.{All-head, All-tail, All-weaker, filter-append}
 use Rattle.std.proofs.lemmas.List.Folds.{list_any_at}
+use Rattle.std.proofs.Math.Bool.{or-false}
+use Rattle.std.proofs.Math.Path.{fun_ext}
 use denote.Enum.Bare.{sameb, same_true}
 use Rattle.scim_schema.specs.declared.Kind.{Kind}
 use Rattle.scim_schema.specs.declared.Kind.TheVariants.{User}
@@ -18,20 +20,25 @@ use Rattle.scim_schema.specs.contracts.Attribute.{the_type as the_attribute}
 use Rattle.scim_schema.specs.declared.Leaf.{Leaf}
 use Rattle.scim_schema.specs.declared.Unit.{Unit as AttributeUnit}
 use Rattle.scim_schema.specs.Table.{HasLeaf, leaves}
+use Rattle.scim_schema.specs.Mutability.{is_write_only}
 use Rattle.scim_schema.specs.Units.{whole}
 use Rattle.scim_cell.specs.declared.rows.Field.{Field}
 use Rattle.scim_cell.specs.Place.{unit_cmp}
 use Rattle.scim_cell.specs.Content.{Content, IsPart}
 use Rattle.scim_cell.specs.Order.{id_cmp}
-use Rattle.scim_cell.specs.Rows.{Row, Test, rows, content, put_values, restricted, restricted_row, has_fields, AreSound, AreValues, IsSoundField, IsSoundRow, Precedes}
+use Rattle.scim_cell.specs.Rows.{Row, Test, rows, content, put_values, restricted, restricted_row, has_fields, AreSound, AreValues, IsSoundField, IsSoundRow, Precedes, attribute_rows}
+use Rattle.scim_cell.proofs.Facts.{AreAlike, restricted_alike}
+use Rattle.scim_filter.specs.Truth.{truth_in_value}
 use Rattle.scim_value.specs.Members.{lists}
 use Rattle.scim_value.proofs.Facts.{sound_part, unit_same, unit_total, rows_content, put_sound, restricted_sound}
 use Rattle.scim_policy.specs.declared.rules.Decision.{Decision}
+use Rattle.scim_policy.specs.Patterns.{PatternRule, decided_for, decisions_of}
 use Rattle.scim_policy.proofs.Facts.{kept_rows}
-use Rattle.scim_view.specs.View.{may_be_seen, shows_some, visible_attributes}
+use Rattle.scim_view.specs.View.{decision_in, may_be_seen, may_be_seen_of, shows_some, visible_attributes, visible_by}
 use Rattle.scim_view.specs.Groups.{memberships, rows_with, visible_with}
 use Rattle.scim_view.specs.Sorted.{sorted_by}
-use Rattle.scim_view.proofs.GroupLemmas.{restricted-put_values, seen_values, shows}
+use Rattle.scim_view.proofs.GroupLemmas.{restricted-put_values, seen_values}
+use Rattle.scim_view.proofs.ViewLemmas.{denied_leaf, shows_value}
 
 -- ---- the rows that a test leaves
 
@@ -199,7 +206,7 @@ left_with attributes test base gs c part none =
     ∙ sym (ap (kept_rows keep) (rows_content c.kind c.id _ (sound_with test base gs c part)))
 
 -- some attributes have the same rows in what may be seen of them alone and in what may be seen of all, whatever groups list the resource, where `groups` isn't one of them
-pub attributes_alike : (attributes : List Attribute) (d : Leaf → Decision) (base : List ℕ) (gs : List Content) (c : Content) → IsPart c → list_any (sameb the_attribute Groups) attributes ≡ false
+pub attributes_alike : (attributes : List Attribute) (d : Row → Leaf → Decision) (base : List ℕ) (gs : List Content) (c : Content) → IsPart c → list_any (sameb the_attribute Groups) attributes ≡ false
     → kept_rows (λ a. list_any (sameb the_attribute a) attributes) (rows (visible_attributes attributes d c))
     ≡ kept_rows (λ a. list_any (sameb the_attribute a) attributes) (rows (visible_with d (memberships base gs c.id) c))
 unfolding visible_attributes visible_with
@@ -264,7 +271,48 @@ pub none_there : (attributes : List Attribute) (shows : Leaf → Bool) (test : T
 none_there attributes shows test c part within none =
     rows_content c.kind c.id _ (restricted_sound c.kind (of_some attributes test) (rows c) (sound_part c part)) ∙ some_hidden attributes shows test c part within none
 
--- of attributes of which nothing may be seen there are no rows in what may be seen of them
-pub none_shown : (attributes : List Attribute) (d : Leaf → Decision) (c : Content) → IsPart c → list_any (shows_some d c.kind) attributes ≡ false → rows (visible_attributes attributes d c) ≡ []
+-- of attributes of which no rule allows a leaf there are no rows in what may be seen of them
+pub none_shown : (attributes : List Attribute) (rules : Leaf → List PatternRule) (c : Content) → IsPart c → list_any (shows_some (λ l. decisions_of (rules l)) c.kind) attributes ≡ false
+    → rows (visible_attributes attributes (decision_in rules) c) ≡ []
 unfolding visible_attributes
-none_shown attributes d c part none = none_there attributes (shows d c.kind) (may_be_seen d c.kind) c part (λ r l hides. hides) none
+none_shown attributes rules c part none = none_there attributes (shows_value rules c.kind) (may_be_seen (decision_in rules) c.kind) c part (denied_leaf rules c.kind) none
+
+-- nor of one of them in what may be seen of all
+pub none_shown_among : (a : Attribute) (rules : Leaf → List PatternRule) (c : Content) → IsPart c → shows_some (λ l. decisions_of (rules l)) c.kind a ≡ false
+    → attribute_rows a (rows (visible_by (decision_in rules) c)) ≡ []
+unfolding visible_by
+none_shown_among a rules c part none =
+    let test = may_be_seen (decision_in rules) c.kind in
+    let keep : Attribute → Bool = λ b. list_any (sameb the_attribute b) (a ∷ []) in
+    let gone = some_hidden (a ∷ []) (shows_value rules c.kind) test c part (denied_leaf rules c.kind) (or-false _ ∙ none) in
+    ap (attribute_rows a) (rows_content c.kind c.id _ (restricted_sound c.kind test (rows c) (sound_part c part)))
+    ∙ sym (ap (λ (p : Attribute → Bool). kept_rows p (restricted test (rows c))) (fun_ext (λ b. or-false (sameb the_attribute b a))))
+    ∙ sym (some_left (a ∷ []) test (rows c))
+    ∙ ap (kept_rows keep) gone
+
+-- ---- attributes whose leaves have patterns of one rule
+
+-- the pattern of each leaf of the attributes is one rule, for all values
+abbrev pub AreSingleOn : List Attribute → (Leaf → Decision) → (Leaf → List PatternRule) → Type 0
+AreSingleOn attributes d rules = (l : Leaf) → list_any (sameb the_attribute l.attribute) attributes ≡ true → rules l ≡ record { decision = d l; filters = None } ∷ []
+
+-- of a sound field the one rule shows what the pattern does
+same_field : (attributes : List Attribute) (d : Leaf → Decision) (rules : Leaf → List PatternRule) (kind : Kind) (r : Row) (f : Field) → AreSingleOn attributes d rules → IsSoundField kind r.unit f
+    → may_be_seen_of attributes (λ q. d) kind r f.leaf ≡ may_be_seen_of attributes (decision_in rules) kind r f.leaf
+same_field attributes d rules kind r f single sound = elim (cases_Bool (list_any (sameb the_attribute r.unit.attribute) attributes)) [
+  | inl t ↦
+      let own : list_any (sameb the_attribute f.leaf.attribute) attributes ≡ true = ap (λ (u : AttributeUnit). list_any (sameb the_attribute u.attribute) attributes) sound.0 ∙ t in
+      rw t (ap (λ (rs : List PatternRule). not (is_write_only kind f.leaf) && (decided_for (λ m. truth_in_value m r) rs).allow) (sym (single f.leaf own)))
+  | inr n ↦ rw n refl
+]
+
+-- so the decisions of these rules show what the patterns do
+pub plain_attributes : (attributes : List Attribute) (d : Leaf → Decision) (rules : Leaf → List PatternRule) (c : Content) → IsPart c → AreSingleOn attributes d rules
+    → visible_attributes attributes (λ (r : Row). d) c ≡ visible_attributes attributes (decision_in rules) c
+unfolding visible_attributes
+plain_attributes attributes d rules c part single =
+    let by_last = may_be_seen_of attributes (λ q. d) c.kind in
+    let by_all = may_be_seen_of attributes (decision_in rules) c.kind in
+    ap (content c.kind c.id) (restricted_alike by_last by_all (rows c)
+    (All-weaker (IsSoundRow c.kind) (AreAlike by_last by_all)
+    (λ r sound. All-weaker (IsSoundField c.kind r.unit) (λ (f : Field). by_last r f.leaf ≡ by_all r f.leaf) (λ f own. same_field attributes d rules c.kind r f single own) r.fields sound.own) (rows c) (sound_part c part).own))

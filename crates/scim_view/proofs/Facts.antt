@@ -1,7 +1,9 @@
 -- What other crates may use of the proofs here.
-pub use Rattle.scim_view.proofs.AttributeLemmas.{attributes_alike, none_shown}
+pub use Rattle.scim_view.proofs.AttributeLemmas.{AreSingleOn, attributes_alike, none_shown, plain_attributes}
 pub use Rattle.scim_view.proofs.IndexLemmas.{seen_more, and_those_append}
+pub use Rattle.scim_view.proofs.LawLemmas.{narrowed}
 pub use Rattle.scim_view.proofs.ListLemmas.{views_more}
 pub use Rattle.scim_view.proofs.NarrowedLemmas.{narrowed_groups, narrowed_view}
 pub use Rattle.scim_view.proofs.SeenRowsLemmas.{seen_stands}
-pub use Rattle.scim_view.proofs.WritableLemmas.{passing, readable_leaf, none_denied, not_wider}
+pub use Rattle.scim_view.proofs.ViewLemmas.{same_visible}
+pub use Rattle.scim_view.proofs.WritableLemmas.{passing, readable_leaf, none_denied, written_seen}

@@ -6,6 +6,7 @@ use Rattle.std.proofs.lemmas.Bool.{cases_Bool}
 use Rattle.std.proofs.lemmas.List.{map-append}
 use Rattle.std.proofs.lemmas.List.Elements.{All-head, All-tail, All-map, All-filter, All-weaker, filter-append, filter_passes}
 use Rattle.std.proofs.lemmas.List.Kept.{AllPairs-filter}
+use Rattle.std.proofs.Math.Bool.{and-false, and-true}
 use Rattle.std.specs.Ordering.{is_lt, is_eq, is_gt}
 use denote.Enum.Bare.{sameb, true_same}
 use denote.Ref.{Bor}
@@ -19,7 +20,6 @@ use Rattle.scim_schema.specs.declared.SubAttribute.TheVariants.{Value}
 use Rattle.scim_schema.specs.Characteristics.{is_multi_valued}
 use Rattle.scim_schema.specs.Units.{simple, leaf_at, whole, unit_of, is_same_leaf}
 use Rattle.scim_schema.proofs.Facts.{leaf_one}
-use Rattle.scim_schema.specs.Mutability.{is_write_only}
 use Rattle.scim_cell.specs.declared.rows.Field.{Field}
 use Rattle.scim_cell.specs.Content.{Content, IsPart}
 use Rattle.scim_cell.specs.Ids.{id_text}
@@ -34,13 +34,9 @@ use Rattle.scim_view.specs.Groups as spec
 use Rattle.scim_cell.specs.Order.{id_cmp}
 use Rattle.scim_value.specs.Members.{is_text, lists}
 use Rattle.scim_view.specs.Groups.{seen, text_in, display_of, membership_of, membership, membership_at, memberships}
-use Rattle.scim_view.specs.code.Memberships.{kept_of, kept_cmp}
+use Rattle.scim_view.specs.code.Memberships.{kept_of, kept_cmp, lists_shown, names_id}
 use Rattle.scim_view.specs.Sorted.{sorted_by}
 use Rattle.scim_view.proofs.SortLemmas.{sorted_by-map}
-
--- whether a leaf of the kind may be seen by these decisions
-abbrev pub shows : (Leaf → Decision) → Kind → Leaf → Bool
-shows d kind l = not (is_write_only kind l) && (d l).allow
 
 -- what a test leaves of the rows of some units
 restricted_filter : (keeps : Test) (p : AttributeUnit → Bool) (rs : List Row) → restricted keeps (filter (λ (r : Row). p r.unit) rs) ≡ filter (λ (r : Row). p r.unit) (restricted keeps rs)
@@ -104,33 +100,32 @@ no_atom l (f ∷ fs) h = cc
 
 -- a text among the rows that are left stands in a row whose leaf is kept
 text_left : (test : Test) (l : Leaf) (t : List ℕ) (rs : List Row)
-    → list_any (λ (m : Row). is_text t (atom_in l m.fields)) (restricted test rs) ≡ list_any (λ (m : Row). test m l && is_text t (atom_in l m.fields)) rs
+    → list_any (λ (m : Row). is_text t (atom_in l m.fields)) (restricted test rs) ≡ list_any (λ (m : Row). is_text t (atom_in l m.fields) && test m l) rs
 text_left test l t [] = refl
 text_left test l t (r ∷ rs) =
     let ih = text_left test l t rs in
     elim (cases_Bool (test r l)) [
       | inl h ↦
           let own = passed_atom (test r) l r.fields h in
+          let kept = ap (λ (b : Bool). is_text t (atom_in l r.fields) && b) h ∙ and-true (is_text t (atom_in l r.fields)) in
           elim (cases_Bool (has_fields (restricted_row test r))) [
-            | inl f ↦ rw (f, h) (λ i. is_text t (own i) || ih i)
+            | inl f ↦ rw f (λ i. (ap (is_text t) own ∙ sym kept) i || ih i)
             | inr f ↦
                 let none : atom_in l r.fields ≡ None = sym own ∙ no_atom l _ f in
-                rw (f, h) (ih ∙ sym (ap (λ o. is_text t o || list_any (λ (m : Row). test m l && is_text t (atom_in l m.fields)) rs) none))
+                rw f (ih ∙ sym (ap (λ (b : Bool). b || list_any (λ (m : Row). is_text t (atom_in l m.fields) && test m l) rs) (kept ∙ ap (is_text t) none)))
           ]
       | inr h ↦
           let own = dropped_atom (test r) l r.fields h in
-          elim (cases_Bool (has_fields (restricted_row test r))) [ inl f ↦ rw (f, h) (λ i. is_text t (own i) || ih i) | inr f ↦ rw (f, h) ih ]
+          let dropped = ap (λ (b : Bool). is_text t (atom_in l r.fields) && b) h ∙ and-false (is_text t (atom_in l r.fields)) in
+          elim (cases_Bool (has_fields (restricted_row test r))) [
+            | inl f ↦ rw f (λ i. (ap (is_text t) own ∙ sym dropped) i || ih i)
+            | inr f ↦ rw f (ih ∙ sym (ap (λ (b : Bool). b || list_any (λ (m : Row). is_text t (atom_in l m.fields) && test m l) rs) dropped))
+          ]
     ]
-
--- a condition on all rows
-any_and : (b : Bool) (p : Row → Bool) (rs : List Row) → list_any (λ (m : Row). b && p m) rs ≡ b && list_any p rs
-any_and true p rs = refl
-any_and false p [] = refl
-any_and false p (r ∷ rs) = any_and false p rs
 
 -- what a test leaves of a group lists an id where a member with its text keeps its `value`
 pub lists_left : (test : Test) (id : List ℕ) (g : Content) → IsPart g
-    → lists id (content g.kind g.id (restricted test (rows g))) ≡ list_any (λ (m : Row). test m (leaf_at Members Value) && is_text (id_text id) (atom_in (leaf_at Members Value) m.fields)) (values (whole Members) (rows g))
+    → lists id (content g.kind g.id (restricted test (rows g))) ≡ list_any (λ (m : Row). names_id id m && test m (leaf_at Members Value)) (values (whole Members) (rows g))
 lists_left test id g valid =
     let any : List Row → Bool = list_any (λ (m : Row). is_text (id_text id) (atom_in (leaf_at Members Value) m.fields)) in
     ap (λ (rs : List Row). any (values (whole Members) rs)) (rows_content g.kind g.id _ (restricted_sound g.kind test (rows g) (sound_part g valid)))
@@ -138,20 +133,18 @@ lists_left test id g valid =
     ∙ text_left test (leaf_at Members Value) (id_text id) (values (whole Members) (rows g))
 
 -- the rows of what is visible
-pub visible_rows : (d : Leaf → Decision) (c : Content) → IsPart c → rows (visible_by d c) ≡ restricted (may_be_seen d c.kind) (rows c)
+pub visible_rows : (d : Row → Leaf → Decision) (c : Content) → IsPart c → rows (visible_by d c) ≡ restricted (may_be_seen d c.kind) (rows c)
 unfolding visible_by
 visible_rows d c valid = rows_content c.kind c.id _ (restricted_sound c.kind (may_be_seen d c.kind) (rows c) (sound_part c valid))
 
-pub visible_kind : (d : Leaf → Decision) (c : Content) → (visible_by d c).kind ≡ c.kind
+pub visible_kind : (d : Row → Leaf → Decision) (c : Content) → (visible_by d c).kind ≡ c.kind
 unfolding visible_by
 visible_kind d c = refl
 
--- a group as it may be seen lists what it lists, where the values of its members may be seen
-pub lists_visible : (d : Leaf → Decision) (id : List ℕ) (g : Content) → IsPart g → lists id (visible_by d g) ≡ shows d g.kind (leaf_at Members Value) && lists id g
+-- a group as it may be seen lists an id where it has a member with its text whose `value` may be seen
+pub lists_visible : (d : Row → Leaf → Decision) (id : List ℕ) (g : Content) → IsPart g → lists id (visible_by d g) ≡ lists_shown d id g
 unfolding visible_by
-lists_visible d id g valid =
-    lists_left (may_be_seen d g.kind) id g valid
-    ∙ any_and (shows d g.kind (leaf_at Members Value)) (λ (m : Row). is_text (id_text id) (atom_in (leaf_at Members Value) m.fields)) (values (whole Members) (rows g))
+lists_visible d id g valid = lists_left (may_be_seen d g.kind) id g valid
 
 -- a unit that is a leaf has no other leaf
 pub one_leaf : (l m : Leaf) → is_multi_valued l.attribute ≡ false → unit_of m ≡ unit_of l → m ≡ l
@@ -206,13 +199,13 @@ pub no_name : (test : Test) (g : Content) → IsPart g → ((r : Row) → test r
 no_name test g valid h = left_name test g valid ∙ ap text_in (dropped_cell test (simple DisplayName) (values (unit_of (simple DisplayName)) (rows g)) h)
 
 -- the name of a group as it may be seen
-pub shown_name : (d : Leaf → Decision) (g : Content) → IsPart g → shows d g.kind (simple DisplayName) ≡ true → display_of (visible_by d g) ≡ display_of g
+pub shown_name : (d : Row → Leaf → Decision) (g : Content) → IsPart g → ((r : Row) → may_be_seen d g.kind r (simple DisplayName) ≡ true) → display_of (visible_by d g) ≡ display_of g
 unfolding visible_by
-shown_name d g valid h = kept_name (may_be_seen d g.kind) g valid (λ r. h)
+shown_name d g valid h = kept_name (may_be_seen d g.kind) g valid h
 
-pub hidden_name : (d : Leaf → Decision) (g : Content) → IsPart g → shows d g.kind (simple DisplayName) ≡ false → display_of (visible_by d g) ≡ None
+pub hidden_name : (d : Row → Leaf → Decision) (g : Content) → IsPart g → ((r : Row) → may_be_seen d g.kind r (simple DisplayName) ≡ false) → display_of (visible_by d g) ≡ None
 unfolding visible_by
-hidden_name d g valid h = no_name (may_be_seen d g.kind) g valid (λ r. h)
+hidden_name d g valid h = no_name (may_be_seen d g.kind) g valid h
 
 -- a value of `groups` is sound, and so is what is left of it
 membership_sound : (base id : List ℕ) (name : Option (List ℕ)) → IsSoundRow User (membership_of base id name)
@@ -223,10 +216,11 @@ membership_sound base id (Some name) =
     sound-AreRising User (membership_of base id (Some name))
     ((refl, (43, lit< tt, refl), tt), tt, ((refl, (44, lit< tt, refl), tt), lit< tt, ((refl, (45, lit< tt, refl), tt), lit< tt, ((refl, (46, lit< tt, refl), tt), lit< tt, tt))))
 
-abbrev IsOwn : Row → Type 0
-IsOwn r = (r.unit ≡ whole Groups) × IsSoundRow User r
+-- a sound value of `groups`
+abbrev pub IsGroupsRow : Row → Type 0
+IsGroupsRow r = (r.unit ≡ whole Groups) × IsSoundRow User r
 
-restricted_own : (keeps : Test) (r : Row) → IsOwn r → IsOwn (restricted_row keeps r)
+restricted_own : (keeps : Test) (r : Row) → IsGroupsRow r → IsGroupsRow (restricted_row keeps r)
 restricted_own keeps r h = (
   h.0,
   record {
@@ -236,22 +230,25 @@ restricted_own keeps r h = (
 )
 
 -- the values of `groups` that are left may be put in
-own_values : (keeps : Test) (ms : List Row) → All IsOwn ms → AreValues User (whole Groups) (restricted keeps ms)
+own_values : (keeps : Test) (ms : List Row) → All IsGroupsRow ms → AreValues User (whole Groups) (restricted keeps ms)
 own_values keeps ms made =
     let left : List Row = map (restricted_row keeps) ms in
-    let own : All IsOwn left = All-map IsOwn (restricted_row keeps) ms (All-weaker IsOwn (λ r. IsOwn (restricted_row keeps r)) (restricted_own keeps) ms made) in
+    let own : All IsGroupsRow left = All-map IsGroupsRow (restricted_row keeps) ms (All-weaker IsGroupsRow (λ r. IsGroupsRow (restricted_row keeps r)) (restricted_own keeps) ms made) in
     let some = filter_passes has_fields left in
-    let kept : All IsOwn (filter has_fields left) = All-filter has_fields IsOwn left own in
+    let kept : All IsGroupsRow (filter has_fields left) = All-filter has_fields IsGroupsRow left own in
     record { few = inl refl; own = λ k d l. ((kept k d l).0, some k d l, (kept k d l).1) }
 
+pub membership_rows : (base : List ℕ) (gs : List (Bor SeenGroup)) → All IsGroupsRow (map (membership_at base) gs)
+membership_rows base gs = All-map IsGroupsRow (membership_at base) gs (λ k d l. (refl, membership_sound base _ _))
+
 pub membership_values : (keeps : Test) (base : List ℕ) (gs : List (Bor SeenGroup)) → AreValues User (whole Groups) (restricted keeps (map (membership_at base) gs))
-membership_values keeps base gs = own_values keeps (map (membership_at base) gs) (All-map IsOwn (membership_at base) gs (λ k d l. (refl, membership_sound base _ _)))
+membership_values keeps base gs = own_values keeps (map (membership_at base) gs) (membership_rows base gs)
 
 pub seen_values : (keeps : Test) (base : List ℕ) (gs : List Content) → AreValues User (whole Groups) (restricted keeps (map (membership base) gs))
-seen_values keeps base gs = own_values keeps (map (membership base) gs) (All-map IsOwn (membership base) gs (λ k d l. (refl, membership_sound base _ _)))
+seen_values keeps base gs = own_values keeps (map (membership base) gs) (All-map IsGroupsRow (membership base) gs (λ k d l. (refl, membership_sound base _ _)))
 
 -- what is visible of a user, with values of `groups`
-pub user_visible : (d : Leaf → Decision) (ms : List Row) (c : Content) → IsPart c → c.kind ≡ User
+pub user_visible : (d : Row → Leaf → Decision) (ms : List Row) (c : Content) → IsPart c → c.kind ≡ User
     → content (visible_by d c).kind (visible_by d c).id (put_values (whole Groups) (restricted (may_be_seen d User) ms) (rows (visible_by d c))) ≡ spec.visible_with d ms c
 unfolding spec.visible_with visible_by
 user_visible d ms c valid e =
@@ -261,7 +258,7 @@ user_visible d ms c valid e =
     ∙ sym (restricted-put_values (may_be_seen d c.kind) (whole Groups) ms (rows c))))
 
 -- and of another resource
-pub other_visible : (d : Leaf → Decision) (ms : List Row) (c : Content) → sameb the_kind c.kind User ≡ false → spec.visible_with d ms c ≡ visible_by d c
+pub other_visible : (d : Row → Leaf → Decision) (ms : List Row) (c : Content) → sameb the_kind c.kind User ≡ false → spec.visible_with d ms c ≡ visible_by d c
 unfolding spec.visible_with visible_by
 other_visible d ms c n = rw n refl
 

@@ -1,6 +1,6 @@
 -- What an index of groups holds, as groups are added, and what it gives.
 use Rattle.std.proofs.Common.{◌≡◌, refl, sym, ◌∙◌, ap, subst, ℕ, ◌+◌, ◌-◌, ◌<◌, Bool, true, false, ◌||◌, cond, List, [], ◌∷◌, ◌++◌, append_assoc, map, filter, length, inl, inr, arith}
-use Rattle.std.specs.Prelude.{All, Option, None, Some, IsSome, nat_eq, if◌then◌else◌}
+use Rattle.std.specs.Prelude.{All, Option, None, Some, IsSome, nat_eq, vec_len, if◌then◌else◌}
 use Rattle.std.specs.List.{list_any, slice_get}
 use Rattle.std.specs.Option.{option_eq, option_copied}
 use Rattle.std.specs.Global.{Vec}
@@ -17,12 +17,13 @@ use Rattle.std.specs.Slice.{IsItemAt}
 use Rattle.std.proofs.lemmas.Option.{slice_get_past, slice_get-get_or, slice_get_within, get_or_from_slice_get}
 use Rattle.scim_cell.specs.Content.{Content}
 use Rattle.scim_cell.specs.Ids.{IsId}
+use Rattle.scim_cell.specs.Rows.{Row}
 use Rattle.scim_view.specs.declared.computed_groups.SeenGroup.{SeenGroup}
 use Rattle.scim_view.specs.declared.group_index.GroupIndex.{GroupIndex}
 use Rattle.scim_view.specs.View.{Viewer, view}
 use Rattle.scim_value.specs.Members.{lists}
 use Rattle.scim_view.specs.Groups.{and_those, seen}
-use Rattle.scim_view.specs.code.Index.{ends_in, noted, at_positions, positions_in, positions_of, Indexes, positions_from, IsMadeOf}
+use Rattle.scim_view.specs.code.Index.{ends_in, is_found, noted, at_positions, positions_in, positions_of, Indexes, positions_from, IsMadeOf}
 use Rattle.scim_view.specs.code.Memberships.{kept_of}
 
 -- an element that was added at the end stands there
@@ -168,3 +169,29 @@ noted_more true true n ps now e = ap (noted n) e ∙ noted_twice n ps
 noted_more true false n ps now e = e
 noted_more false true n ps now e = ap (noted n) e
 noted_more false false n ps now e = e
+
+-- of the members so far in which a test finds an id, the position of the next group is noted for that id
+abbrev pub AreNoted : (List ℕ → Row → Bool) → GroupIndex → List Row → GroupIndex → Type 0
+AreNoted finds old ms now =
+    (id : List ℕ) → IsId id → positions_of now id ≡ (if list_any (finds id) ms then noted (vec_len old.groups) (positions_of old id) else positions_of old id)
+
+-- with a member more in which it finds one
+pub noted_member : (finds : List ℕ → Row → Bool) (old now new : GroupIndex) (ms : List Row) (m : Row) (found : List ℕ) → now.groups ≡ old.groups → AreNoted finds old ms now
+    → ((id : List ℕ) → IsId id → finds id m ≡ is_found id (Some found))
+    → ((id : List ℕ) → positions_of new id ≡ cond (is_eq (slice_cmp nat_cmp found id)) (noted (vec_len now.groups) (positions_of now id)) (positions_of now id))
+    → AreNoted finds old (ms ++ m ∷ []) new
+noted_member finds old now new ms m found groups before own step id valid =
+    let n = vec_len old.groups in
+    step id
+    ∙ ap (λ (b : Bool). cond b (noted (vec_len now.groups) (positions_of now id)) (positions_of now id)) (is_eq-slice_cmp found id)
+    ∙ ap (λ (k : ℕ). cond (is_found id (Some found)) (noted k (positions_of now id)) (positions_of now id)) (ap (λ (v : Vec SeenGroup). vec_len v) groups)
+    ∙ noted_more (list_any (finds id) ms) (is_found id (Some found)) n (positions_of old id) (positions_of now id) (before id valid)
+    ∙ sym (ap (λ (b : Bool). if b then noted n (positions_of old id) else positions_of old id) (list_any_more (finds id) ms m ∙ ap (λ (b : Bool). list_any (finds id) ms || b) (own id valid)))
+
+-- and with one in which it finds none
+pub passed_member : (finds : List ℕ → Row → Bool) (old now : GroupIndex) (ms : List Row) (m : Row) → AreNoted finds old ms now
+    → ((id : List ℕ) → IsId id → finds id m ≡ false) → AreNoted finds old (ms ++ m ∷ []) now
+passed_member finds old now ms m before none id valid =
+    let n = vec_len old.groups in
+    noted_more (list_any (finds id) ms) false n (positions_of old id) (positions_of now id) (before id valid)
+    ∙ sym (ap (λ (b : Bool). if b then noted n (positions_of old id) else positions_of old id) (list_any_more (finds id) ms m ∙ ap (λ (b : Bool). list_any (finds id) ms || b) (none id valid)))

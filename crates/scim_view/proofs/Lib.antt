@@ -6,13 +6,12 @@ pub mod SortLemmas
 pub mod GroupLemmas
 pub mod SeenRowsLemmas
 pub mod AttributeLemmas
-pub mod ValueViewLemmas
 pub mod UncoveredLemmas
 pub mod NarrowedLemmas
 pub mod MemberLemmas
 pub mod IndexLemmas
 pub mod ListLemmas
 pub mod ListingLemmas
-pub mod WritableLemmas
 pub mod LawLemmas
+pub mod WritableLemmas
 pub mod Facts

@@ -11,10 +11,10 @@ use Rattle.scim_schema.specs.Units.{simple}
 use Rattle.scim_cell.specs.Content.{Content}
 use Rattle.scim_cell.specs.Ids.{IsId}
 use Rattle.scim_cell.specs.Rows.{Row}
-use Rattle.scim_policy.specs.declared.rules.Decision.{Decision}
+use Rattle.scim_policy.specs.Patterns.{PatternRule, decide_in, decisions_of, whole_decision}
 use Rattle.scim_view.specs.declared.computed_groups.SeenGroup.{SeenGroup}
 use Rattle.scim_view.specs.declared.group_index.GroupIndex.{GroupIndex}
-use Rattle.scim_view.specs.View.{Viewer, read_decision, sees, view, view_by, visible_by}
+use Rattle.scim_view.specs.View.{Viewer, decision_in, read_rules, sees, view, visible_by}
 use Rattle.scim_value.specs.Members.{lists}
 use Rattle.scim_view.specs.Groups.{and_those, seen, membership_of, membership_at, memberships, rows_with, visible_with, with_groups, view_with_groups, views}
 use Rattle.scim_view.specs.code.Index.{groups_of, Indexes}
@@ -22,7 +22,7 @@ use Rattle.scim_view.specs.code.Memberships.{kept_cmp}
 use Rattle.scim_view.specs.Sorted.{sorted_by}
 use Rattle.scim_view.proofs.GroupLemmas.{map_kept_sorted}
 use Rattle.scim_view.proofs.IndexLemmas.{seen_more, and_those_append}
-use Rattle.scim_view.proofs.ViewLemmas.{same_view}
+use Rattle.scim_view.proofs.ViewLemmas.{same_sees, same_visible}
 
 -- what is shown of a group that is kept
 abbrev pub shown_of : List ℕ → SeenGroup → Row
@@ -37,18 +37,16 @@ memberships_given gs index id base items indexes valid given =
     ∙ map_kept_sorted base (filter (lists id) gs)
 
 -- the groups that a client sees, with one more that it sees, and one that it doesn't
-pub seen_one : (d : Leaf → Decision) (v : Viewer) (gs : List Content) (g : Content) → ((l : Leaf) → d l ≡ read_decision v g l)
-    → (d (simple Id)).allow ≡ true → seen v (gs ++ g ∷ []) ≡ seen v gs ++ visible_by d g ∷ []
-unfolding view_by
-seen_one d v gs g same allowed =
-    let is : view v g ≡ Some (visible_by d g) = sym (same_view d v g same) ∙ rw allowed refl in
+pub seen_one : (rules : Leaf → List PatternRule) (v : Viewer) (gs : List Content) (g : Content) → ((l : Leaf) → rules l ≡ read_rules v g l)
+    → (whole_decision (decisions_of (rules (simple Id)))).allow ≡ true → seen v (gs ++ g ∷ []) ≡ seen v gs ++ visible_by (decision_in rules) g ∷ []
+seen_one rules v gs g same allowed =
+    let is : view v g ≡ Some (visible_by (decision_in rules) g) = rw (sym (same_sees rules v g same) ∙ allowed) (ap (λ (w : Content). Some w) (sym (same_visible rules v g same))) in
     seen_more v gs g ∙ ap (λ (o : Option Content). seen v gs ++ and_those o []) is
 
-pub seen_none : (d : Leaf → Decision) (v : Viewer) (gs : List Content) (g : Content) → ((l : Leaf) → d l ≡ read_decision v g l)
-    → (d (simple Id)).allow ≡ false → seen v (gs ++ g ∷ []) ≡ seen v gs
-unfolding view_by
-seen_none d v gs g same denied =
-    let is : view v g ≡ None = sym (same_view d v g same) ∙ rw denied refl in
+pub seen_none : (rules : Leaf → List PatternRule) (v : Viewer) (gs : List Content) (g : Content) → ((l : Leaf) → rules l ≡ read_rules v g l)
+    → (whole_decision (decisions_of (rules (simple Id)))).allow ≡ false → seen v (gs ++ g ∷ []) ≡ seen v gs
+seen_none rules v gs g same denied =
+    let is : view v g ≡ None = rw (sym (same_sees rules v g same) ∙ denied) refl in
     seen_more v gs g ∙ ap (λ (o : Option Content). seen v gs ++ and_those o []) is ∙ append-nil (seen v gs)
 
 -- the views of resources, with one more
@@ -59,17 +57,14 @@ views_more v groups (b ∷ cs) c =
     ap (and_those (view_with_groups v groups b)) (views_more v groups cs c)
     ∙ and_those_append (view_with_groups v groups b) (views v groups cs) (and_those (view_with_groups v groups c) [])
 
--- decisions that are those of the policy give the client's view with groups
-pub unseen_with : (d : Leaf → Decision) (v : Viewer) (groups : List Content) (c : Content) → ((l : Leaf) → d l ≡ read_decision v c l)
-    → (d (simple Id)).allow ≡ false → None ≡ view_with_groups v groups c
-unfolding sees
-unseen_with d v groups c same denied =
-    let no : (read_decision v c (simple Id)).allow ≡ false = ap (λ (e : Decision). e.allow) (sym (same (simple Id))) ∙ denied in
-    rw no refl
+-- rules that are those of the policy give the client's view with groups
+pub unseen_with : (rules : Leaf → List PatternRule) (v : Viewer) (groups : List Content) (c : Content) → ((l : Leaf) → rules l ≡ read_rules v c l)
+    → (whole_decision (decisions_of (rules (simple Id)))).allow ≡ false → None ≡ view_with_groups v groups c
+unseen_with rules v groups c same denied = rw (sym (same_sees rules v c same) ∙ denied) refl
 
-pub seen_with : (d : Leaf → Decision) (v : Viewer) (groups : List Content) (c : Content) (ms : List Row) → ((l : Leaf) → d l ≡ read_decision v c l)
-    → (d (simple Id)).allow ≡ true → rows_with ms c ≡ rows_with (memberships v.base (seen v groups) c.id) c → Some (visible_with d ms c) ≡ view_with_groups v groups c
-unfolding sees visible_with with_groups
-seen_with d v groups c ms same allowed beside =
-    let yes : (read_decision v c (simple Id)).allow ≡ true = ap (λ (e : Decision). e.allow) (sym (same (simple Id))) ∙ allowed in
-    rw (yes, beside) (ap (λ (f : Leaf → Decision). Some (visible_with f (memberships v.base (seen v groups) c.id) c)) (fun_ext same))
+pub seen_with : (rules : Leaf → List PatternRule) (v : Viewer) (groups : List Content) (c : Content) (ms : List Row) → ((l : Leaf) → rules l ≡ read_rules v c l)
+    → (whole_decision (decisions_of (rules (simple Id)))).allow ≡ true → rows_with ms c ≡ rows_with (memberships v.base (seen v groups) c.id) c → Some (visible_with (decision_in rules) ms c) ≡ view_with_groups v groups c
+unfolding visible_with with_groups decide_in
+seen_with rules v groups c ms same allowed beside =
+    let yes : sees v c ≡ true = sym (same_sees rules v c same) ∙ allowed in
+    rw (yes, beside) (ap (λ (rs : Leaf → List PatternRule). Some (visible_with (decision_in rs) (memberships v.base (seen v groups) c.id) c)) (fun_ext same))

@@ -29,16 +29,16 @@ use Rattle.scim_value.specs.Members.{lists}
 use Rattle.scim_value.specs.Resource.{first_at}
 use Rattle.scim_value.proofs.Facts.{get_cell, sound_part, one_value, unit_total, rows_content, put_sound, restricted_sound, unit_same}
 use Rattle.scim_filter.specs.Truth.{some_cell, some_atom}
-use Rattle.scim_view.specs.View.{Viewer, read_decision, may_be_seen}
+use Rattle.scim_view.specs.View.{Viewer, read_in, may_be_seen}
 use Rattle.scim_view.specs.Groups.{seen, membership, memberships, rows_with, with_groups, visible_with}
 use Rattle.scim_view.specs.Sorted.{sorted_by}
 use Rattle.scim_view.proofs.GroupLemmas.{restricted-put_values, seen_values, one_leaf}
 
 -- the rows of what is seen of a resource with its groups
 seen_sound : (v : Viewer) (gs : List Content) (c : Content) → IsPart c
-    → AreSound c.kind (restricted (may_be_seen (read_decision v c) c.kind) (rows_with (memberships v.base (seen v gs) c.id) c))
+    → AreSound c.kind (restricted (may_be_seen (read_in v c) c.kind) (rows_with (memberships v.base (seen v gs) c.id) c))
 seen_sound v gs c part =
-    let keeps = may_be_seen (read_decision v c) c.kind in
+    let keeps = may_be_seen (read_in v c) c.kind in
     let ms = memberships v.base (seen v gs) c.id in
     let own = restricted_sound c.kind keeps (rows c) (sound_part c part) in
     elim (cases_Bool (sameb the_kind c.kind User)) [
@@ -50,7 +50,7 @@ seen_sound v gs c part =
     ]
 
 seen_rows : (v : Viewer) (gs : List Content) (c : Content) → IsPart c
-    → rows (with_groups v gs c) ≡ restricted (may_be_seen (read_decision v c) c.kind) (rows_with (memberships v.base (seen v gs) c.id) c)
+    → rows (with_groups v gs c) ≡ restricted (may_be_seen (read_in v c) c.kind) (rows_with (memberships v.base (seen v gs) c.id) c)
 unfolding with_groups visible_with
 seen_rows v gs c part = rows_content c.kind c.id _ (seen_sound v gs c part)
 
@@ -181,7 +181,7 @@ seen_stands passes l v gs c single other part e =
     let sound = sound_part c part in
     let p = leaf_passes passes l in
     let listed : List Content = sorted_by id_cmp (filter (lists c.id) (seen v gs)) in
-    let left : some_cell p l.attribute (restricted (may_be_seen (read_decision v c) c.kind) (rows_with (map (membership v.base) listed) c)) ≡ true
+    let left : some_cell p l.attribute (restricted (may_be_seen (read_in v c) c.kind) (rows_with (map (membership v.base) listed) c)) ≡ true
     = ap (some_cell p l.attribute) (sym (seen_rows v gs c part)) ∙ e in
     let stored : some_cell p l.attribute (rows c) ≡ true = with_stands p l.attribute v.base listed c other (left_stands _ p l.attribute (rows_with (map (membership v.base) listed) c) left) in
     let vs = values (unit_of l) (rows c) in

@@ -1,20 +1,23 @@
--- What a client may write it sees, and what a change doesn't open it saw before.
-use Rattle.std.proofs.Common.{◌≡◌, refl, sym, ◌∙◌, Bool, true, false, List, [], ◌∷◌, ◌++◌, map, filter, inl, inr, if◌then◌else◌}
-use Rattle.std.specs.Prelude.{All, not, ◌&&◌, find, Option, None, Some}
+-- What a client may write it sees.
+use Rattle.std.proofs.Common.{◌≡◌, refl, sym, ◌∙◌, Bool, true, false, List, [], ◌∷◌, ◌++◌, filter, inl, inr, if◌then◌else◌}
+use Rattle.std.specs.Prelude.{All, not, find, Option, None, Some}
 use Rattle.std.specs.List.{flat_map}
 use Rattle.std.proofs.lemmas.Bool.{cases_Bool}
 use Rattle.std.proofs.lemmas.List.Elements.{All-head, All-tail, All-cons, All-nil, All-contains}
 use Rattle.scim_schema.specs.declared.Kind.{Kind}
-use Rattle.scim_schema.specs.declared.Op.TheVariants.{Read, Modify, Delete}
 use Rattle.scim_schema.specs.declared.Leaf.{Leaf}
 use Rattle.scim_schema.specs.declared.Unit.{Unit as AttributeUnit}
 use Rattle.scim_schema.specs.Mutability.{is_write_only}
 use Rattle.scim_schema.specs.Table.{HasLeaf, leaves}
 use Rattle.scim_schema.specs.Units.{unit_of, is_same_unit}
 use Rattle.scim_schema.proofs.Facts.{is_same_unit-Decides}
+use Rattle.scim_cell.specs.Content.{Content}
+use Rattle.scim_cell.specs.Rows.{Row}
 use Rattle.scim_policy.specs.declared.rules.Decision.{Decision}
-use Rattle.scim_policy.specs.Access.{Access, needed, leaves_of, forbidding, opened, first, widening}
+use Rattle.scim_policy.specs.Access.{Access, access, needed, leaves_of, forbidding}
 use Rattle.scim_policy.specs.Table.{or_else}
+use Rattle.scim_view.specs.View.{Viewer, read_in, may_be_seen}
+use Rattle.scim_view.proofs.LawLemmas.{allowed_leaves}
 
 -- ---- lists
 
@@ -36,13 +39,6 @@ passing p [] = All-nil (λ x. p x ≡ true)
 passing p (x ∷ xs) = elim (cases_Bool (p x)) [
   | inl t ↦ rw t (All-cons (λ y. p y ≡ true) x (filter p xs) t (passing p xs))
   | inr n ↦ rw n (passing p xs)
-]
-
-none_pass : {X : Type 0} (p : X → Bool) (xs : List X) → filter p xs ≡ [] → All (λ x. p x ≡ false) xs
-none_pass p [] e = All-nil (λ x. p x ≡ false)
-none_pass p (x ∷ xs) e = elim (cases_Bool (p x)) [
-  | inl t ↦ absurd (let some : x ∷ filter p xs ≡ [] = rw t at e in cc)
-  | inr n ↦ All-cons (λ y. p y ≡ false) x xs n (none_pass p xs (rw n at e))
 ]
 
 -- ---- a unit that no leaf forbids to write
@@ -85,6 +81,11 @@ readable_leaf kind a u e l own there open' =
     let each = unfiltered (λ m. is_same_unit (unit_of m) u) (IsReadable kind a) (leaves kind) (readable kind a (leaves_of kind u) e) in
     All-contains (λ m. is_same_unit (unit_of m) u ≡ true → IsReadable kind a m) (leaves kind) l each there ((is_same_unit-Decides (unit_of l) u).1 own) open'
 
+-- so what may be written is seen in each value, but for what nobody reads
+pub written_seen : (v : Viewer) (c : Content) (u : AttributeUnit) → forbidding c.kind (access v.policy v.client c) u ≡ None
+    → (l : Leaf) → unit_of l ≡ u → HasLeaf c.kind l → is_write_only c.kind l ≡ false → (r : Row) → may_be_seen (read_in v c) c.kind r l ≡ true
+written_seen v c u e l own there open' = allowed_leaves v c l (readable_leaf c.kind (access v.policy v.client c) u e l own there open') open'
+
 -- the first denial of some units is none where none is denied
 pub none_denied : (kind : Kind) (a : Access) (us : List AttributeUnit) (rest : List AttributeUnit → Option (Leaf × Decision))
     → rest [] ≡ None → ((u : AttributeUnit) (vs : List AttributeUnit) → rest (u ∷ vs) ≡ or_else (forbidding kind a u) (rest vs)) → rest us ≡ None → All (λ u. forbidding kind a u ≡ None) us
@@ -96,28 +97,3 @@ none_denied kind a (u ∷ us) rest nothing more e =
     both_none : (o p : Option (Leaf × Decision)) → or_else o p ≡ None → (o ≡ None) × (p ≡ None)
     both_none None p h = (refl, h)
     both_none (Some d) p h = absurd (let some : Some d ≡ None = h in cc)
-
--- ---- a change that opens nothing
-
-no_first : {X : Type 0} (xs ys : List X) → first (xs ++ ys) ≡ None → xs ≡ []
-no_first [] ys e = refl
-no_first (x ∷ xs) ys e = cc
-
-no_map : {X Y : Type 0} (f : X → Y) (xs : List X) → map f xs ≡ [] → xs ≡ []
-no_map f [] e = refl
-no_map f (x ∷ xs) e = cc
-
-not_opened : (before after : Bool) → (after && not before) ≡ false → after ≡ true → before ≡ true
-not_opened true after e h = refl
-not_opened false true e h = absurd (cc e)
-not_opened false false e h = absurd (cc h)
-
--- a leaf that may be read afterwards could be read before
-pub not_wider : (kind : Kind) (before after : Access) → widening kind before after ≡ None → (l : Leaf) → HasLeaf kind l → (after.read l).allow ≡ true → (before.read l).allow ≡ true
-unfolding widening
-not_wider kind before after e l there may =
-    let none = no_first (opened kind Read before.read after.read) (opened kind Modify before.modify after.modify ++ opened kind Delete before.delete after.delete) e in
-    let each = none_pass (λ m. (after.read m).allow && not (before.read m).allow) (leaves kind)
-    (no_map (λ m. (Read, m, after.read m)) (filter (λ m. (after.read m).allow && not (before.read m).allow) (leaves kind)) none) in
-    not_opened (before.read l).allow (after.read l).allow
-    (All-contains (λ m. ((after.read m).allow && not (before.read m).allow) ≡ false) (leaves kind) l each there) may

@@ -20,7 +20,7 @@ use Rattle.scim_value.specs.Resource.{location}
 use Rattle.scim_cell.specs.Rows.{Row, rows, put_values, restricted, content, cell_at}
 use Rattle.scim_policy.specs.declared.rules.Decision.{Decision}
 use Rattle.scim_view.specs.declared.computed_groups.SeenGroup.{SeenGroup}
-use Rattle.scim_view.specs.View.{Viewer, read_decision, may_be_seen, sees, view}
+use Rattle.scim_view.specs.View.{Viewer, read_in, may_be_seen, sees, view}
 use Rattle.scim_view.specs.Sorted.{sorted_by}
 
 -- the value of the option, if any, followed by the list
@@ -76,15 +76,15 @@ memberships base gs id = map (membership base) (sorted_by id_cmp (filter (lists 
 abbrev pub rows_with : List Row → Content → List Row
 rows_with ms c = if sameb the_kind c.kind User then put_values (whole Groups) ms (rows c) else rows c
 
--- the resource with these values of `groups`, restricted to the cells that the read decisions make
--- visible
-unfoldable pub visible_with : (Leaf → Decision) → List Row → Content → Content
+-- the resource with these values of `groups`, restricted to the cells that the decisions on reading its values
+-- make visible
+unfoldable pub visible_with : (Row → Leaf → Decision) → List Row → Content → Content
 visible_with decision ms c = content c.kind c.id (restricted (may_be_seen decision c.kind) (rows_with ms c))
 
 -- the part of a resource that the client may see, with `groups` computed from the given groups
 -- that the client sees
 unfoldable pub with_groups : Viewer → List Content → Content → Content
-with_groups v groups c = visible_with (read_decision v c) (memberships v.base (seen v groups) c.id) c
+with_groups v groups c = visible_with (read_in v c) (memberships v.base (seen v groups) c.id) c
 
 -- the part of a resource that the client may see, with its computed `groups`; None if the client doesn't see
 -- the resource

@@ -1,5 +1,4 @@
 pub mod View
-pub mod ValueViews
 pub mod Names
 pub mod Shown
 pub mod Sorted
@@ -7,5 +6,4 @@ pub mod Groups
 pub mod Indexes
 pub mod Listings
 pub mod Laws
-pub mod ValueViewLaws
 pub mod code

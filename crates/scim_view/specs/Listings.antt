@@ -7,6 +7,8 @@ use Rattle.scim_view.specs.View.{Viewer}
 use Rattle.scim_view.specs.Groups.{seen}
 use Rattle.scim_view.specs.code.Memberships.{kept_of}
 
--- the listing has those of the given groups in which the viewer sees the resource with this id as a member
-abbrev pub AreListing : Viewer → List ℕ → List Content → ListingGroups → Type 0
-AreListing v id groups listing = listing.groups.items ≡ map kept_of (filter (lists id) (seen v groups))
+-- the listing is for the resource with this id, and has those of the given groups in which the viewer sees the
+-- resource as a member
+pub record AreListing (v : Viewer) (id : List ℕ) (groups : List Content) (listing : ListingGroups) : Type 0 where
+  pub member : listing.member ≡ id
+  pub gathered : listing.groups.items ≡ map kept_of (filter (lists id) (seen v groups))

@@ -1,14 +1,15 @@
 //! Computes the `groups` of users as a client sees them (RFC 7643 section 4.1.2).
-ghost use Rattle.std.specs.Prelude.{◌≡◌, List, IfOk, OnOk, map};
+ghost use Rattle.std.specs.Prelude.{◌≡◌, ℕ, true, List, IfOk, OnOk, map};
 ghost use Rattle.std.specs.Option.{option_copied};
 ghost use Rattle.std.specs.List.{list_any};
 ghost use Rattle.scim_schema.specs.declared.Leaf.{Leaf};
 ghost use Rattle.scim_schema.specs.Units.{whole, leaf_at};
-ghost use Rattle.scim_cell.specs.Content.{Content, IsPart};
+ghost use Rattle.scim_cell.specs.Content.{Content};
+ghost use Rattle.scim_cell.specs.Ids.{id_text};
 ghost use Rattle.scim_cell.specs.Rows.{rows, values, atom_in, restricted};
-ghost use Rattle.scim_policy.specs.Table.{decision};
+ghost use Rattle.scim_policy.specs.PatternTable.{rules_in};
 ghost use Rattle.scim_view.specs.View as seeing;
-ghost use Rattle.scim_view.specs.View.{viewer_of, visible_by};
+ghost use Rattle.scim_view.specs.View.{decision_in, viewer_of, visible_by};
 ghost use Rattle.scim_view.specs.code.Memberships as kept;
 ghost use Rattle.scim_view.specs.Sorted.{sorted_by};
 ghost use Rattle.scim_value.specs.Members as members;
@@ -18,9 +19,9 @@ ghost use Rattle.scim_view.specs.Listings.{AreListing};
 use crate::listing_groups::ListingGroups;
 use crate::memberships::membership;
 use crate::viewers::Viewer;
-use crate::views::{MayBeSeen, visible_by};
+use crate::views::{MayBeSeenPlainly, shows_id, visible_by};
 use scim_cell::{Atom, Id, Row, Text};
-use scim_policy::Decisions;
+use scim_policy::Patterns;
 use scim_schema::{Attribute, Kind, Leaf, SubAttribute, Unit};
 use scim_text::{NoMemory, push};
 use scim_value::{Part, Resource};
@@ -35,36 +36,37 @@ pub(crate) struct SeenGroup {
 }
 
 /// Returns the parts of a group that appear in the `groups` of its members.
-/// `decisions` are the decisions on reading the group.
+/// `patterns` are those for reading the group.
 pub(crate) fn seen_group(
     alloc: Global,
-    decisions: &Decisions,
+    patterns: &Patterns<'_>,
     group: &Resource,
 ) -> Result<SeenGroup, NoMemory>
     ensures id { IfOk result (λ g. g.id ≡ group.now.id) }
     ensures display { IfOk result (λ g. g.display
-        ≡ spec.display_of (visible_by (decision decisions.now) group.now)) }
+        ≡ spec.display_of (visible_by (decision_in (rules_in patterns.now)) group.now)) }
 {
-    let display = seen_name(alloc, decisions, group)?;
+    let display = seen_name(alloc, patterns, group)?;
     Ok(SeenGroup {
         id: group.id(),
         display,
     })
 }
 
-/// Returns the `displayName` of a group; `None` if it has none or `decisions` don't let the client read it.
+/// Returns the `displayName` of a group; `None` if it has none or `patterns` don't let the client read it. No value
+/// filter covers `displayName`, which has one value, so the last rule of its pattern decides.
 fn seen_name(
     alloc: Global,
-    decisions: &Decisions,
+    patterns: &Patterns<'_>,
     group: &Resource,
 ) -> Result<Option<Text>, NoMemory>
     ensures { IfOk result (λ n. n
-        ≡ spec.display_of (visible_by (decision decisions.now) group.now)) }
+        ≡ spec.display_of (visible_by (decision_in (rules_in patterns.now)) group.now)) }
 {
     let name = Leaf::simple(Attribute::DisplayName);
-    let shown = MayBeSeen {
+    let shown = MayBeSeenPlainly {
         kind: group.kind(),
-        decisions,
+        patterns,
     };
     let part = group.part();
     if shown.shows(name) {
@@ -84,43 +86,43 @@ fn text_of(alloc: Global, atom: Option<&Atom>) -> Result<Option<Text>, NoMemory>
     }
 }
 
-/// Returns the part of a resource that `decisions` let the client read, with `groups` computed.
+/// Returns the part of a resource that `patterns` let the client read, with `groups` computed.
 /// The `groups` of a user are made from the argument `groups`, in the given order. For a group, the argument
 /// is ignored.
 pub(crate) fn visible_with(
     alloc: Global,
-    decisions: &Decisions,
+    patterns: &Patterns<'_>,
     resource: &Resource,
     groups: &[&SeenGroup],
     base: &str,
 ) -> Result<Part, NoMemory>
-    ensures { IfOk result (λ p. p ≡ spec.visible_with (decision decisions.now)
+    ensures { IfOk result (λ p. p ≡ spec.visible_with (decision_in (rules_in patterns.now))
         (map (spec.membership_at base.now) groups.now) resource.now) }
 {
-    let part = visible_by(alloc, decisions, resource)?;
+    let part = visible_by(alloc, patterns, resource)?;
     if resource.part().kind() == Kind::User {
-        let values = memberships(alloc, decisions, groups, base)?;
+        let values = memberships(alloc, patterns, groups, base)?;
         part.put(Unit::whole(Attribute::Groups), values)
     } else {
         Ok(part)
     }
 }
 
-/// Returns the values of a user's `groups`, each with the fields that `decisions` let the client read.
+/// Returns the values of a user's `groups`, each with the fields that `patterns` let the client read.
 /// Values without a readable field are left out.
 fn memberships(
     alloc: Global,
-    decisions: &Decisions,
+    patterns: &Patterns<'_>,
     groups: &[&SeenGroup],
     base: &str,
 ) -> Result<Vec<Row>, NoMemory>
     ensures { IfOk result (λ v. v.items
-        ≡ restricted (seeing.may_be_seen (decision decisions.now) Kind.User)
+        ≡ restricted (seeing.may_be_seen (decision_in (rules_in patterns.now)) Kind.User)
         (map (spec.membership_at base.now) groups.now)) }
 {
-    let shown = MayBeSeen {
+    let shown = MayBeSeenPlainly {
         kind: Kind::User,
-        decisions,
+        patterns,
     };
     let mut values = Vec::new(alloc);
     for group in groups {
@@ -134,9 +136,9 @@ fn memberships(
 
 impl Viewer<'_> {
     /// Like [`Viewer::visible`], but with the `groups` of a user computed (RFC 7643 section 4.1.2). This
-    /// attribute has a value for each of the given groups that lists the user, if the client sees the group
-    /// and the ids of its members. The values are in ascending order of the groups' ids. The policy decides
-    /// on `groups` as on any other attribute.
+    /// attribute has a value for each of the given groups that the client sees, and sees to list the user as a
+    /// member. The values are in ascending order of the groups' ids. The policy decides on `groups` as on any
+    /// other attribute.
     pub fn with_groups(
         &self,
         alloc: Global,
@@ -146,28 +148,28 @@ impl Viewer<'_> {
         ensures { IfOk result (λ p. p
             ≡ spec.with_groups (viewer_of self.now) groups.now resource.now) }
     {
-        let decisions = self.decisions(alloc, resource)?;
+        let patterns = self.patterns(alloc, resource)?;
         let listing = ListingGroups::of(alloc, self, groups, resource)?;
-        self.with_groups_by(alloc, &decisions, &listing, resource)
+        self.with_groups_by(alloc, &patterns, &listing, resource)
     }
 
-    /// Like [`Viewer::with_groups`], with decisions and groups that the caller has computed. `decisions` must
-    /// come from [`Viewer::decisions`] for this resource, and `groups` must have been gathered for it;
+    /// Like [`Viewer::with_groups`], with patterns and groups that the caller has computed. `patterns` must
+    /// come from [`Viewer::patterns`] for this resource, and `groups` must have been gathered for it;
     /// otherwise the result is unspecified. The policy isn't evaluated again.
     pub fn with_groups_by(
         &self,
         alloc: Global,
-        decisions: &Decisions,
+        patterns: &Patterns<'_>,
         groups: &ListingGroups,
         resource: &Resource,
     ) -> Result<Part, NoMemory>
         ensures { IfOk result (λ p. (gs : List Content)
-            → ((l : Leaf) → decision decisions.now l
-            ≡ seeing.read_decision (viewer_of self.now) resource.now l)
+            → ((l : Leaf) → rules_in patterns.now l
+            ≡ seeing.read_rules (viewer_of self.now) resource.now l)
             → AreListing (viewer_of self.now) resource.now.id gs groups.now
             → p ≡ spec.with_groups (viewer_of self.now) gs resource.now) }
     {
-        visible_among(alloc, decisions, resource, groups.as_slice(), self.base)
+        visible_among(alloc, patterns, resource, groups.as_slice(), self.base)
     }
 
     /// Like [`Viewer::with_groups`], but returns `None` if the client doesn't see the resource at all.
@@ -181,12 +183,12 @@ impl Viewer<'_> {
         ensures { IfOk result (λ o. o
             ≡ spec.view_with_groups (viewer_of self.now) groups.now resource.now) }
     {
-        let decisions = self.decisions(alloc, resource)?;
-        if !decisions.of(Leaf::simple(Attribute::Id)).allow {
+        let patterns = self.patterns(alloc, resource)?;
+        if !shows_id(&patterns) {
             return Ok(None);
         }
         let listing = ListingGroups::of(alloc, self, groups, resource)?;
-        let part = self.with_groups_by(alloc, &decisions, &listing, resource)?;
+        let part = self.with_groups_by(alloc, &patterns, &listing, resource)?;
         Ok(Some(part))
     }
 }
@@ -194,18 +196,18 @@ impl Viewer<'_> {
 /// Like [`visible_with`], but sorts the groups by id first.
 fn visible_among(
     alloc: Global,
-    decisions: &Decisions,
+    patterns: &Patterns<'_>,
     resource: &Resource,
     groups: &[SeenGroup],
     base: &str,
 ) -> Result<Part, NoMemory>
-    ensures { IfOk result (λ p. p ≡ spec.visible_with (decision decisions.now)
+    ensures { IfOk result (λ p. p ≡ spec.visible_with (decision_in (rules_in patterns.now))
         (map (λ g. spec.membership_of base.now g.id g.display) (sorted_by kept.kept_cmp groups.now))
         resource.now) }
 {
     let mut lent = references(alloc, groups)?;
     put_in_order(&mut lent)?;
-    visible_with(alloc, decisions, resource, lent.as_slice(), base)
+    visible_with(alloc, patterns, resource, lent.as_slice(), base)
 }
 
 /// Returns a reference to each of the groups, in their order.
@@ -228,17 +230,46 @@ pub(crate) fn put_in_order(groups: &mut Vec<&SeenGroup>) -> Result<(), NoMemory>
     Ok(())
 }
 
-/// Whether `decisions` let the client see the group and the ids of its members.
-pub(crate) fn shows_members(decisions: &Decisions, group: &Resource) -> bool
-    ensures value { result ≡ kept.shows_members (decision decisions.now) group.now.kind }
-    ensures valid { IsPart group.now }
+/// Whether `patterns` let the client see the group, and in it a member whose `value` is `member`. The caller must
+/// know that the group has such a member: if no value filter is on `members`, its members aren't looked at.
+pub(crate) fn tells_of(
+    alloc: Global,
+    patterns: &Patterns<'_>,
+    group: &Part,
+    member: &str,
+) -> Result<bool, NoMemory>
+    ensures { IfOk result (λ b. (id : List ℕ) → member.now ≡ id_text id
+        → members.lists id group.now ≡ true
+        → b ≡ kept.tells_of (rules_in patterns.now) id group.now) }
 {
-    let shown = MayBeSeen {
-        kind: group.part().kind(),
-        decisions,
-    };
-    decisions.of(Leaf::simple(Attribute::Id)).allow
-        && shown.shows(Leaf::of(Attribute::Members, SubAttribute::Value))
+    if !shows_id(patterns) {
+        return Ok(false);
+    }
+    if patterns.is_plain_on(&[Attribute::Members]) {
+        let kind = group.kind();
+        let shown = MayBeSeenPlainly { kind, patterns };
+        return Ok(shown.shows(Leaf::of(Attribute::Members, SubAttribute::Value)));
+    }
+    lists_shown(alloc, patterns, group, member)
+}
+
+/// Whether the group has a member whose `value` is `member` and is one that `patterns` let the client see.
+fn lists_shown(
+    alloc: Global,
+    patterns: &Patterns<'_>,
+    group: &Part,
+    member: &str,
+) -> Result<bool, NoMemory>
+    ensures { IfOk result (λ b. (id : List ℕ) → member.now ≡ id_text id
+        → b ≡ kept.lists_shown (decision_in (rules_in patterns.now)) id group.now) }
+{
+    let value = Leaf::of(Attribute::Members, SubAttribute::Value);
+    for row in group.values(Unit::whole(Attribute::Members)) {
+        if is_text(member, row.get(value)) && patterns.decide_in(alloc, value, row)?.allow {
+            return Ok(true);
+        }
+    }
+    Ok(false)
 }
 
 /// Whether the group has a member whose `value` is `member`.

@@ -6,16 +6,18 @@ ghost use Rattle.std.specs.Cmp.Lexicographic.{slice_cmp};
 ghost use Rattle.scim_schema.specs.declared.Leaf.{Leaf};
 ghost use Rattle.scim_cell.specs.Content.{Content};
 ghost use Rattle.scim_cell.specs.Ids.{IsId};
-ghost use Rattle.scim_policy.specs.Table.{decision};
-ghost use Rattle.scim_view.specs.View.{Viewer as SpecViewer, read_decision, viewer_of, visible_by};
+ghost use Rattle.scim_policy.specs.PatternTable.{rules_in};
+ghost use Rattle.scim_view.specs.View.{Viewer as SpecViewer, decision_in, read_rules, viewer_of, visible_by};
 ghost use Rattle.scim_view.specs.code.Index as spec;
 ghost use Rattle.scim_view.specs.Indexes.{IsIndexOf};
 ghost use Rattle.scim_view.specs.code.Index.{IsMadeOf};
+ghost use Rattle.scim_view.specs.code.Memberships.{names_id};
 
 use crate::computed_groups::{SeenGroup, seen_group};
 use crate::viewers::Viewer;
+use crate::views::shows_id;
 use scim_cell::{Atom, Id, Row};
-use scim_policy::Decisions;
+use scim_policy::Patterns;
 use scim_schema::{Attribute, Leaf, SubAttribute, Unit};
 use scim_text::{NoMemory, push};
 use scim_value::Resource;
@@ -46,22 +48,22 @@ impl GroupIndex {
     }
 
     /// Adds a group, if the viewer sees it.
-    /// `decisions` must come from [`Viewer::decisions`] for the group, or from [`Viewer::decisions_on_all`]
+    /// `patterns` must come from [`Viewer::patterns`] for the group, or from [`Viewer::patterns_on_all`]
     /// for groups. After `NoMemory` the index is unusable.
     pub fn push(
         &mut self,
         alloc: Global,
-        decisions: &Decisions,
+        patterns: &Patterns<'_>,
         group: &Resource,
     ) -> Result<(), NoMemory>
         ensures { OnOk result ((v : SpecViewer) (groups : List Content)
-            → ((l : Leaf) → decision decisions.now l ≡ read_decision v group.now l)
+            → ((l : Leaf) → rules_in patterns.now l ≡ read_rules v group.now l)
             → IsIndexOf v groups self.old → IsIndexOf v (groups ++ group.now ∷ []) self.new) }
     {
-        if !decisions.of(Leaf::simple(Attribute::Id)).allow {
+        if !shows_id(patterns) {
             return Ok(());
         }
-        self.add(alloc, decisions, group)?;
+        self.add(alloc, patterns, group)?;
         Ok(())
     }
 
@@ -75,8 +77,8 @@ impl GroupIndex {
     {
         let mut index = GroupIndex::new(alloc);
         for group in groups {
-            let decisions = viewer.decisions(alloc, group)?;
-            index.push(alloc, &decisions, group)?;
+            let patterns = viewer.patterns(alloc, group)?;
+            index.push(alloc, &patterns, group)?;
         }
         Ok(index)
     }
@@ -104,24 +106,24 @@ impl GroupIndex {
         }
     }
 
-    /// Adds a group that the client sees, with the parts that `decisions` let it read.
+    /// Adds a group that the client sees, with the parts that `patterns` let it read.
     /// After `NoMemory` the index is unusable.
     fn add(
         &mut self,
         alloc: Global,
-        decisions: &Decisions,
+        patterns: &Patterns<'_>,
         group: &Resource,
     ) -> Result<(), NoMemory>
         ensures { (gs : List Content) → IsMadeOf gs self.old
-            → OnOk result (IsMadeOf (gs ++ visible_by (decision decisions.now) group.now
+            → OnOk result (IsMadeOf (gs ++ visible_by (decision_in (rules_in patterns.now)) group.now
             ∷ []) self.new) }
     {
-        let seen = seen_group(alloc, decisions, group)?;
+        let seen = seen_group(alloc, patterns, group)?;
         let members = group.part().values(Unit::whole(Attribute::Members));
-        if decisions
-            .of(Leaf::of(Attribute::Members, SubAttribute::Value))
-            .allow
-        {
+        let value = Leaf::of(Attribute::Members, SubAttribute::Value);
+        if !patterns.is_plain_on(&[Attribute::Members]) {
+            self.add_shown_members(alloc, patterns, members)?;
+        } else if patterns.last(value).allow {
             self.add_members(alloc, members)?;
         }
         push(&mut self.groups, seen)?;
@@ -132,13 +134,38 @@ impl GroupIndex {
     fn add_members(&mut self, alloc: Global, members: &[Row]) -> Result<(), NoMemory>
         ensures groups { self.new.groups ≡ self.old.groups }
         ensures positions { OnOk result ((id : List ℕ) → IsId id → spec.positions_of self.new id
-            ≡ (if list_any (spec.names_member id) members.now
+            ≡ (if list_any (names_id id) members.now
             then spec.noted (vec_len self.old.groups)
             (spec.positions_of self.old id) else spec.positions_of self.old id)) }
     {
         for member in members {
             if let Some(id) = member_id(member) {
                 self.add_member(alloc, id)?;
+            }
+        }
+        Ok(())
+    }
+
+    /// Records the position of the next group for each of the members whose `value` `patterns` let the client
+    /// read.
+    fn add_shown_members(
+        &mut self,
+        alloc: Global,
+        patterns: &Patterns<'_>,
+        members: &[Row],
+    ) -> Result<(), NoMemory>
+        ensures groups { self.new.groups ≡ self.old.groups }
+        ensures positions { OnOk result ((id : List ℕ) → IsId id → spec.positions_of self.new id
+            ≡ (if list_any (spec.names_shown (decision_in (rules_in patterns.now)) id) members.now
+            then spec.noted (vec_len self.old.groups)
+            (spec.positions_of self.old id) else spec.positions_of self.old id)) }
+    {
+        let value = Leaf::of(Attribute::Members, SubAttribute::Value);
+        for member in members {
+            if let Some(id) = member_id(member) {
+                if patterns.decide_in(alloc, value, member)?.allow {
+                    self.add_member(alloc, id)?;
+                }
             }
         }
         Ok(())
@@ -166,7 +193,7 @@ impl GroupIndex {
 /// Returns the id in the `value` of a member; `None` if its `value` isn't the text of an id.
 fn member_id(member: &Row) -> Option<Id>
     ensures id { (id : List ℕ) → IsId id
-        → spec.names_member id member.now ≡ spec.is_found id result }
+        → names_id id member.now ≡ spec.is_found id result }
 {
     match member.get(Leaf::of(Attribute::Members, SubAttribute::Value)) {
         Some(Atom::Text(text)) => Id::read(text.as_str()),

@@ -10,18 +10,13 @@ mod listing_groups;
 mod lists;
 mod memberships;
 mod projection;
-mod value_views;
 mod viewers;
 mod views;
 
 pub use attribute_lists::Names;
 pub use group_index::GroupIndex;
-pub use laws::{
-    allowed_leaves_are_seen, denied_values_are_unseen, nothing_comes_into_view,
-    patterns_decide_on_id, plain_policies_show_leaves,
-};
+pub use laws::{allowed_leaves_are_seen, denied_values_are_unseen, nothing_comes_into_view};
 pub use listing_groups::ListingGroups;
 pub use projection::{Wanted, project};
-pub use value_views::{MayBeSeenPlainlyOf, shows_some_value, visible_attributes_by_value};
 pub use viewers::Viewer;
-pub use views::{MayBeSeenOf, shows_some};
+pub use views::{MayBeSeenPlainlyOf, shows_id, shows_some, visible_attributes};

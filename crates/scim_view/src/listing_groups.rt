@@ -3,15 +3,15 @@ ghost use Rattle.std.specs.Prelude.{◌≡◌, ◌++◌, ◌∷◌, [], ℕ, Lis
 ghost use Rattle.scim_schema.specs.declared.Leaf.{Leaf};
 ghost use Rattle.scim_cell.specs.Content.{Content};
 ghost use Rattle.scim_value.specs.Members.{lists};
-ghost use Rattle.scim_policy.specs.Table.{decision};
-ghost use Rattle.scim_view.specs.View.{Viewer as SpecViewer, read_decision, viewer_of};
+ghost use Rattle.scim_policy.specs.PatternTable.{rules_in};
+ghost use Rattle.scim_view.specs.View.{Viewer as SpecViewer, read_rules, viewer_of};
 ghost use Rattle.scim_view.specs.Listings.{AreListing};
 ghost use Rattle.scim_view.specs.code.Memberships.{telling};
 
-use crate::computed_groups::{SeenGroup, lists, seen_group, shows_members};
+use crate::computed_groups::{SeenGroup, lists, seen_group, tells_of};
 use crate::viewers::Viewer;
 use scim_cell::Id;
-use scim_policy::Decisions;
+use scim_policy::Patterns;
 use scim_schema::Kind;
 use scim_text::{NoMemory, push};
 use scim_value::Resource;
@@ -22,37 +22,42 @@ use std::alloc::Global;
 /// one, so a caller can borrow them from a store.
 #[derive(Drop)]
 pub struct ListingGroups {
+    /// The id of the resource.
+    member: Id,
     groups: Vec<SeenGroup>,
 }
 
 impl ListingGroups {
-    /// Returns an empty list, without allocating.
-    pub fn new(alloc: Global) -> ListingGroups
-        ensures { (v : SpecViewer) (id : List ℕ) → AreListing v id [] result }
+    /// Returns an empty list for the resource with the id `member`, without allocating.
+    pub fn new(alloc: Global, member: Id) -> ListingGroups
+        ensures { (v : SpecViewer) → AreListing v member [] result }
     {
         ListingGroups {
+            member,
             groups: Vec::new(alloc),
         }
     }
 
-    /// Adds a group that lists the resource, if the viewer sees the group and the ids of its members.
-    /// The caller must know that the group lists the resource: its members aren't checked. `decisions` must
-    /// come from [`Viewer::decisions`] for the group, or from [`Viewer::decisions_on_all`] for groups. After
-    /// `NoMemory` the list is unusable.
+    /// Adds a group that lists the resource, if the viewer sees the group, and the resource among its members.
+    /// The caller must know that the group lists the resource: its members are looked at only if a value filter is
+    /// on them. `patterns` must come from [`Viewer::patterns`] for the group, or from [`Viewer::patterns_on_all`]
+    /// for groups. After `NoMemory` the list is unusable.
     pub fn push(
         &mut self,
         alloc: Global,
-        decisions: &Decisions,
+        patterns: &Patterns<'_>,
         group: &Resource,
     ) -> Result<(), NoMemory>
         ensures { OnOk result ((v : SpecViewer) (id : List ℕ) (groups : List Content)
-            → ((l : Leaf) → decision decisions.now l ≡ read_decision v group.now l)
+            → ((l : Leaf) → rules_in patterns.now l ≡ read_rules v group.now l)
             → lists id group.now ≡ true
             → AreListing v id groups self.old
             → AreListing v id (groups ++ group.now ∷ []) self.new) }
     {
-        if shows_members(decisions, group) {
-            push(&mut self.groups, seen_group(alloc, decisions, group)?)?;
+        let mut buffer = [0; Id::TEXT_LENGTH];
+        let member = self.member.write(&mut buffer);
+        if tells_of(alloc, patterns, group.part(), member)? {
+            push(&mut self.groups, seen_group(alloc, patterns, group)?)?;
         }
         Ok(())
     }
@@ -72,7 +77,7 @@ impl ListingGroups {
     {
         match resource.kind() {
             Kind::User => ListingGroups::of_id(alloc, viewer, groups, resource.id()),
-            Kind::Group => Ok(ListingGroups::new(alloc)),
+            Kind::Group => Ok(ListingGroups::new(alloc, resource.id())),
         }
     }
 
@@ -87,11 +92,11 @@ impl ListingGroups {
     {
         let mut buffer = [0; Id::TEXT_LENGTH];
         let member = id.write(&mut buffer);
-        let mut listing = ListingGroups::new(alloc);
+        let mut listing = ListingGroups::new(alloc, id);
         for group in groups {
             if lists(group.part(), member) {
-                let decisions = viewer.decisions(alloc, group)?;
-                listing.push(alloc, &decisions, group)?;
+                let patterns = viewer.patterns(alloc, group)?;
+                listing.push(alloc, &patterns, group)?;
             }
         }
         Ok(listing)

@@ -2,8 +2,8 @@
 ghost use Rattle.std.specs.Prelude.{◌≡◌, ℕ, IfOk, List, map};
 ghost use Rattle.scim_schema.specs.declared.Leaf.{Leaf};
 ghost use Rattle.scim_cell.specs.Content.{Content};
-ghost use Rattle.scim_policy.specs.Table.{decision};
-ghost use Rattle.scim_view.specs.View.{read_decision, viewer_of};
+ghost use Rattle.scim_policy.specs.PatternTable.{rules_in};
+ghost use Rattle.scim_view.specs.View.{read_rules, viewer_of};
 ghost use Rattle.scim_view.specs.Groups as spec;
 ghost use Rattle.scim_view.specs.Indexes.{IsIndexOf};
 ghost use Rattle.scim_view.specs.code.Index.{Indexes};
@@ -11,8 +11,9 @@ ghost use Rattle.scim_view.specs.code.Index.{Indexes};
 use crate::computed_groups::{SeenGroup, put_in_order, visible_with};
 use crate::group_index::GroupIndex;
 use crate::viewers::Viewer;
-use scim_policy::Decisions;
-use scim_schema::{Attribute, Kind, Leaf};
+use crate::views::shows_id;
+use scim_policy::Patterns;
+use scim_schema::Kind;
 use scim_text::{NoMemory, push};
 use scim_value::{Part, Resource};
 use std::alloc::Global;
@@ -33,8 +34,8 @@ impl Viewer<'_> {
         let index = GroupIndex::of(alloc, self, groups)?;
         let mut views = Vec::new(alloc);
         for resource in resources {
-            let decisions = self.decisions(alloc, resource)?;
-            let view = self.view_by_index(alloc, &decisions, &index, resource)?;
+            let patterns = self.patterns(alloc, resource)?;
+            let view = self.view_by_index(alloc, &patterns, &index, resource)?;
             if let Some(view) = view {
                 push(&mut views, view)?;
             }
@@ -43,27 +44,27 @@ impl Viewer<'_> {
     }
 
     /// Like [`Viewer::view_with_groups`], but takes the groups from the index. `None` if the client doesn't
-    /// see the resource. `decisions` must come from [`Viewer::decisions`] for the resource, or from
-    /// [`Viewer::decisions_on_all`] for its kind; otherwise the result is unspecified. The policy isn't
+    /// see the resource. `patterns` must come from [`Viewer::patterns`] for the resource, or from
+    /// [`Viewer::patterns_on_all`] for its kind; otherwise the result is unspecified. The policy isn't
     /// evaluated again.
     pub fn view_by_index(
         &self,
         alloc: Global,
-        decisions: &Decisions,
+        patterns: &Patterns<'_>,
         index: &GroupIndex,
         resource: &Resource,
     ) -> Result<Option<Part>, NoMemory>
         ensures { IfOk result (λ o. (groups : List Content)
-            → ((l : Leaf) → decision decisions.now l
-            ≡ read_decision (viewer_of self.now) resource.now l)
+            → ((l : Leaf) → rules_in patterns.now l
+            ≡ read_rules (viewer_of self.now) resource.now l)
             → IsIndexOf (viewer_of self.now) groups index.now
             → o ≡ spec.view_with_groups (viewer_of self.now) groups resource.now) }
     {
-        if !decisions.of(Leaf::simple(Attribute::Id)).allow {
+        if !shows_id(patterns) {
             return Ok(None);
         }
         let groups = groups_beside(alloc, index, resource)?;
-        let view = visible_with(alloc, decisions, resource, groups.as_slice(), self.base)?;
+        let view = visible_with(alloc, patterns, resource, groups.as_slice(), self.base)?;
         Ok(Some(view))
     }
 }

@@ -4,29 +4,30 @@ ghost use Rattle.std.specs.Option.{option_copied};
 ghost use Rattle.scim_cell.specs.Ids.{id_text};
 ghost use Rattle.scim_value.specs.Resource.{location};
 ghost use Rattle.scim_cell.specs.Rows.{restricted_row};
-ghost use Rattle.scim_policy.specs.Table.{decision};
+ghost use Rattle.scim_policy.specs.PatternTable.{last_decision};
 ghost use Rattle.scim_view.specs.View.{may_be_seen};
 ghost use Rattle.scim_view.specs.Groups as spec;
 ghost use Rattle.scim_view.specs.code.Memberships.{shown_fields};
 
-use crate::views::MayBeSeen;
+use crate::views::MayBeSeenPlainly;
 use scim_cell::{Atom, Field, Id, Row, Text};
 use scim_schema::{Attribute, Kind, Leaf, SubAttribute, Unit};
 use scim_text::{NoMemory, push};
 use scim_value::location;
 use std::alloc::Global;
 
-/// Returns the value of `groups` for the group `id`, with only the fields that the client may see.
+/// Returns the value of `groups` for the group `id`, with only the fields that the client may see. No value filter
+/// covers `groups`, so the last rules of its leaves' patterns decide.
 /// `display` is the group's name, if the client sees one.
 pub(crate) fn membership(
     alloc: Global,
-    shown: &MayBeSeen,
+    shown: &MayBeSeenPlainly<'_>,
     base: &str,
     id: Id,
     display: Option<&Text>,
 ) -> Result<Row, NoMemory>
     ensures { IfOk result (λ r. r
-        ≡ restricted_row (may_be_seen (decision shown.now.decisions.now) shown.now.kind)
+        ≡ restricted_row (may_be_seen (λ r. last_decision shown.now.patterns.now) shown.now.kind)
         (spec.membership_of base.now id (option_copied display.entry))) }
 {
     let mut fields = Vec::new(alloc);
@@ -41,11 +42,11 @@ pub(crate) fn membership(
 fn add_value(
     alloc: Global,
     fields: &mut Vec<Field>,
-    shown: &MayBeSeen,
+    shown: &MayBeSeenPlainly<'_>,
     id: Id,
 ) -> Result<(), NoMemory>
     ensures { OnOk result (fields.new.items ≡ fields.old.items
-        ++ shown_fields (decision shown.now.decisions.now) shown.now.kind
+        ++ shown_fields (last_decision shown.now.patterns.now) shown.now.kind
         (spec.field SubAttribute.Value (id_text id) ∷ [])) }
 {
     if shown.shows(Leaf::of(Attribute::Groups, SubAttribute::Value)) {
@@ -58,12 +59,12 @@ fn add_value(
 fn add_reference(
     alloc: Global,
     fields: &mut Vec<Field>,
-    shown: &MayBeSeen,
+    shown: &MayBeSeenPlainly<'_>,
     base: &str,
     id: Id,
 ) -> Result<(), NoMemory>
     ensures { OnOk result (fields.new.items ≡ fields.old.items
-        ++ shown_fields (decision shown.now.decisions.now) shown.now.kind
+        ++ shown_fields (last_decision shown.now.patterns.now) shown.now.kind
         (spec.field SubAttribute.Reference (location base.now Kind.Group id) ∷ [])) }
 {
     if shown.shows(Leaf::of(Attribute::Groups, SubAttribute::Reference)) {
@@ -77,11 +78,11 @@ fn add_reference(
 fn add_display(
     alloc: Global,
     fields: &mut Vec<Field>,
-    shown: &MayBeSeen,
+    shown: &MayBeSeenPlainly<'_>,
     display: Option<&Text>,
 ) -> Result<(), NoMemory>
     ensures { OnOk result (fields.new.items ≡ fields.old.items
-        ++ shown_fields (decision shown.now.decisions.now) shown.now.kind
+        ++ shown_fields (last_decision shown.now.patterns.now) shown.now.kind
         (spec.display_field (option_copied display.entry))) }
 {
     if let Some(name) = display {
@@ -93,9 +94,13 @@ fn add_display(
 }
 
 /// Appends `type`, which is always "direct", if the client may see it.
-fn add_type(alloc: Global, fields: &mut Vec<Field>, shown: &MayBeSeen) -> Result<(), NoMemory>
+fn add_type(
+    alloc: Global,
+    fields: &mut Vec<Field>,
+    shown: &MayBeSeenPlainly<'_>,
+) -> Result<(), NoMemory>
     ensures { OnOk result (fields.new.items ≡ fields.old.items
-        ++ shown_fields (decision shown.now.decisions.now) shown.now.kind
+        ++ shown_fields (last_decision shown.now.patterns.now) shown.now.kind
         (spec.field SubAttribute.TypeName (codes "direct") ∷ [])) }
 {
     if shown.shows(Leaf::of(Attribute::Groups, SubAttribute::TypeName)) {

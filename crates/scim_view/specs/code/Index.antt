@@ -1,32 +1,34 @@
 -- The code's index of the groups that a client sees, by the ids of their members.
-use Rattle.std.specs.Prelude.{◌≡◌, ℕ, ◌+◌, ◌-◌, Bool, false, List, [], ◌∷◌, ◌++◌, length, map, filter, nat_eq, Option, None, Some, if◌then◌else◌}
+use Rattle.std.specs.Prelude.{◌≡◌, ℕ, ◌+◌, ◌-◌, Bool, false, ◌&&◌, List, [], ◌∷◌, ◌++◌, length, map, filter, nat_eq, Option, None, Some, if◌then◌else◌}
 use Rattle.std.specs.Global.{Vec}
 use Rattle.std.specs.List.{slice_get}
 use Rattle.std.specs.Option.{option_eq}
 use Rattle.std.specs.BTreeMap.{get}
 use Rattle.std.specs.Ordering.{nat_cmp}
 use Rattle.std.specs.Cmp.Lexicographic.{slice_cmp}
+use Rattle.scim_schema.specs.declared.Leaf.{Leaf}
 use Rattle.scim_schema.specs.declared.Attribute.TheVariants.{Members}
 use Rattle.scim_schema.specs.declared.SubAttribute.TheVariants.{Value}
 use Rattle.scim_schema.specs.Units.{leaf_at}
 use Rattle.scim_cell.specs.Equality.{is_same_id}
 use Rattle.scim_cell.specs.Content.{Content}
-use Rattle.scim_cell.specs.Ids.{IsId, id_text}
-use Rattle.scim_cell.specs.Rows.{Row, atom_in}
+use Rattle.scim_cell.specs.Ids.{IsId}
+use Rattle.scim_cell.specs.Rows.{Row}
+use Rattle.scim_policy.specs.declared.rules.Decision.{Decision}
 use Rattle.scim_view.specs.declared.computed_groups.SeenGroup.{SeenGroup}
 use Rattle.scim_view.specs.declared.group_index.GroupIndex.{GroupIndex}
-use Rattle.scim_value.specs.Members.{is_text, lists}
+use Rattle.scim_value.specs.Members.{lists}
 use Rattle.scim_view.specs.Groups.{and_those}
-use Rattle.scim_view.specs.code.Memberships.{kept_of}
+use Rattle.scim_view.specs.code.Memberships.{kept_of, names_id}
 
 -- whether an id was found and is equal to `id`
 abbrev pub is_found : List ℕ → Option (List ℕ) → Bool
 is_found id None = false
 is_found id (Some found) = is_same_id found id
 
--- whether the `value` of a member is the text of the id
-abbrev pub names_member : List ℕ → Row → Bool
-names_member id m = is_text (id_text id) (atom_in (leaf_at Members Value) m.fields)
+-- whether the `value` of a member is the text of the id, and the decisions on reading let it be read
+abbrev pub names_shown : (Row → Leaf → Decision) → List ℕ → Row → Bool
+names_shown decision id m = names_id id m && (decision m (leaf_at Members Value)).allow
 
 -- whether the position is the last of the list
 abbrev pub ends_in : ℕ → List ℕ → Bool

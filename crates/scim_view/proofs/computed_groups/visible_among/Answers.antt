@@ -3,8 +3,9 @@ use Rattle.std.proofs.lemmas.Result.{IfOk-weaker}
 use denote.Ref.{Bor}
 use Rattle.scim_cell.specs.Content.{Content}
 use Rattle.scim_cell.specs.Rows.{Row}
-use Rattle.scim_policy.specs.Table.{decision}
+use Rattle.scim_policy.specs.PatternTable.{rules_in}
 use Rattle.scim_view.specs.declared.computed_groups.SeenGroup.{SeenGroup}
+use Rattle.scim_view.specs.View.{decision_in}
 use Rattle.scim_view.specs.Groups as spec
 use Rattle.scim_view.specs.code.Memberships.{kept_cmp}
 use Rattle.scim_view.specs.Sorted.{sorted_by}
@@ -13,7 +14,7 @@ use Rattle.scim_view.proofs.computed_groups.visible_among.Goals as goal
 
 pub returns : goal.returns
 returns c =
-    let d = decision c.args.decisions.now in
+    let d = decision_in (rules_in c.args.patterns.now) in
     let base = c.args.base.now in
     let own = c.args.resource.now in
     let made : SeenGroup → Row = λ g. spec.membership_of base g.id g.display in

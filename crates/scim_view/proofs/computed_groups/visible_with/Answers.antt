@@ -8,15 +8,15 @@ use Rattle.scim_schema.specs.declared.Attribute.TheVariants.{Groups}
 use Rattle.scim_schema.specs.Units.{whole}
 use Rattle.scim_cell.specs.Content.{Content}
 use Rattle.scim_cell.specs.Rows.{AreValues, rows, content, put_values, restricted}
-use Rattle.scim_policy.specs.Table.{decision}
-use Rattle.scim_view.specs.View.{may_be_seen}
+use Rattle.scim_policy.specs.PatternTable.{rules_in}
+use Rattle.scim_view.specs.View.{decision_in, may_be_seen}
 use Rattle.scim_view.specs.Groups as spec
 use Rattle.scim_view.proofs.GroupLemmas.{membership_values, user_visible, other_visible, visible_kind}
 use Rattle.scim_view.proofs.computed_groups.visible_with.Goals as goal
 
 pub put-requires : goal.put-requires
 put-requires c =
-    let d = decision c.args.decisions.now in
+    let d = decision_in (rules_in c.args.patterns.now) in
     let whose = sym (same_true the_kind tt _ _ (sym c.eq.ensures ∙ c.if-eq.true)) ∙ c.kind.ensures ∙ ap (λ (p : Content). p.kind) c.part.ensures.value ∙ sym (visible_kind d c.args.resource.now) ∙ ap (λ (p : Content). p.kind) (sym c.in_ok-part.ensures) in
     rw (c.whole.ensures, c.in_ok-values.ensures)
     (subst (λ (k : Kind). AreValues k (whole Groups) (restricted (may_be_seen d User) (map (spec.membership_at c.args.base.now) c.args.groups.now))) whose
@@ -24,7 +24,7 @@ put-requires c =
 
 pub returns-in_ok-values : goal.returns-in_ok-values
 returns-in_ok-values c =
-    let d = decision c.args.decisions.now in
+    let d = decision_in (rules_in c.args.patterns.now) in
     let own = c.args.resource.now in
     let ms = map (spec.membership_at c.args.base.now) c.args.groups.now in
     let user : own.kind ≡ User = sym (c.kind.ensures ∙ ap (λ (p : Content). p.kind) c.part.ensures.value) ∙ same_true the_kind tt _ _ (sym c.eq.ensures ∙ c.if-eq.true) in
@@ -38,7 +38,7 @@ returns-in_ok-values c =
 
 pub returns-else-eq : goal.returns-else-eq
 returns-else-eq c =
-    let d = decision c.args.decisions.now in
+    let d = decision_in (rules_in c.args.patterns.now) in
     let own = c.args.resource.now in
     let other : sameb the_kind own.kind User ≡ false = (λ i. sameb the_kind (sym (c.kind.ensures ∙ ap (λ (p : Content). p.kind) c.part.ensures.value) i) User) ∙ sym c.eq.ensures ∙ c.if-eq.false in
     c.in_ok-part.ensures ∙ sym (other_visible d (map (spec.membership_at c.args.base.now) c.args.groups.now) own other)

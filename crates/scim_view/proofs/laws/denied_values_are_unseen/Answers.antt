@@ -1,4 +1,4 @@
-use Rattle.scim_view.proofs.ValueViewLemmas.{denied_leaves, denied_attributes}
+use Rattle.scim_view.proofs.LawLemmas.{denied_leaves, denied_attributes}
 use Rattle.scim_view.proofs.laws.denied_values_are_unseen.Goals as goal
 
 pub returns : goal.returns

@@ -1,9 +1,9 @@
-use Rattle.std.proofs.Common.{◌≡◌, ◌∙◌, ap, ℕ, List, [], ◌++◌, ◌∷◌}
+use Rattle.std.proofs.Common.{◌∙◌, ap, ℕ, [], ◌++◌, ◌∷◌}
 use Rattle.std.specs.Prelude.{Option, Some, vec_len}
 use Rattle.std.specs.Global.{Vec}
 use Rattle.std.proofs.lemmas.Result.{on_ok_weaker}
 use Rattle.scim_view.specs.code.Index.{noted, positions_in}
-use Rattle.scim_view.proofs.IndexLemmas.{Positions, is_there, noted_at}
+use Rattle.scim_view.proofs.IndexLemmas.{is_there, noted_at}
 use Rattle.scim_view.proofs.group_index.GroupIndex.add_member.Goals as goal
 
 pub returns-in-Some-clause-positions : goal.returns-in-Some-clause-positions

@@ -11,7 +11,7 @@ loop-group-preserved c =
     let i = c.loop-group.group-index in
     let g = c.group-item.result in
     let more : take (i + 1) gs ≡ take i gs ++ g ∷ [] = take_more gs i g c.loop-group-test.true ∙ ap (λ (x : Content). take i gs ++ x ∷ []) (sym c.group-item.is) in
-    subst (λ (xs : List Content). IsIndexOf (viewer_of c.args.viewer.now) xs c.push.new.self) (sym more) (c.in_ok-push.ensures (viewer_of c.args.viewer.now) (take i gs) c.in_ok-decisions.ensures c.loop-group.invariant)
+    subst (λ (xs : List Content). IsIndexOf (viewer_of c.args.viewer.now) xs c.push.new.self) (sym more) (c.in_ok-push.ensures (viewer_of c.args.viewer.now) (take i gs) c.in_ok-patterns.ensures c.loop-group.invariant)
 
 pub returns : goal.returns
 returns c =

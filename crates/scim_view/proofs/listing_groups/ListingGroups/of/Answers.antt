@@ -1,4 +1,4 @@
-use Rattle.std.proofs.Common.{◌≡◌, sym, ◌∙◌, ap, subst, List, []}
+use Rattle.std.proofs.Common.{◌≡◌, sym, ◌∙◌, ap, subst, ℕ, List, []}
 use Rattle.std.specs.Prelude.{if◌then◌else◌}
 use denote.Enum.Bare.{sameb}
 use Rattle.scim_schema.specs.contracts.Kind.{the_type as the_kind}
@@ -16,4 +16,4 @@ returns-in-Group c =
     let own = c.args.resource.now in
     let groups = c.args.groups.now in
     let none : telling own groups ≡ [] = ap (λ (k : Kind). if sameb the_kind k User then groups else []) (sym c.kind.ensures ∙ c.in-Group.is) in
-    subst (λ (xs : List Content). AreListing viewer own.id xs c.new.result) (sym none) (c.new.ensures viewer own.id)
+    subst (λ (xs : List Content). AreListing viewer own.id xs c.new.result) (sym none) (subst (λ (id : List ℕ). AreListing viewer id [] c.new.result) c.id-in-Group.ensures (c.new.ensures viewer))

@@ -17,7 +17,7 @@ loop-resource-preserved c =
     let r = c.resource-item.result in
     let before = views viewer groups (take i rs) in
     let more : take (i + 1) rs ≡ take i rs ++ r ∷ [] = take_more rs i r c.loop-resource-test.true ∙ ap (λ (x : Content). take i rs ++ x ∷ []) (sym c.resource-item.is) in
-    let viewed : c.in_ok-view.view ≡ view_with_groups viewer groups r = c.in_ok-view.ensures groups c.in_ok-decisions.ensures c.in_ok-index.ensures in
+    let viewed : c.in_ok-view.view ≡ view_with_groups viewer groups r = c.in_ok-view.ensures groups c.in_ok-patterns.ensures c.in_ok-index.ensures in
     let end : before ++ and_those c.in_ok-view.view [] ≡ views viewer groups (take (i + 1) rs) =
     ap (λ (o : Option Content). before ++ and_those o []) viewed ∙ sym (ap (views viewer groups) more ∙ views_more viewer groups (take i rs) r) in
     elim c.match-view.branch [

@@ -14,5 +14,5 @@ returns c =
     let own = c.args.resource.now in
     IfOk-weaker c.with_groups_by.result _
     (λ (p : Content). p ≡ spec.with_groups viewer groups own)
-    (λ p told. told (telling own groups) c.in_ok-decisions.ensures c.in_ok-listing.ensures ∙ told_alike viewer groups own)
+    (λ p told. told (telling own groups) c.in_ok-patterns.ensures c.in_ok-listing.ensures ∙ told_alike viewer groups own)
     c.with_groups_by.ensures

@@ -2,9 +2,9 @@ use Rattle.std.proofs.Common.{◌≡◌, sym, ◌∙◌, ap, subst, ◌<◌, ◌
 use Rattle.std.proofs.lemmas.List.{get_or-map, map_push, take_more}
 use Rattle.scim_cell.specs.declared.rows.Field.{Field}
 use Rattle.scim_policy.specs.PatternTable.{rules_in}
-use Rattle.scim_view.specs.ValueViews.{decision_in, may_be_seen_in}
-use Rattle.scim_view.proofs.value_views.MayBeSeenInRowJudge.kept.Goals as goal
-use Rattle.scim_view.proofs.value_views.MayBeSeenInRowJudge.kept.Goals.{then-not-is_hidden, else-not-is_hidden}
+use Rattle.scim_view.specs.View.{decision_in, may_be_seen}
+use Rattle.scim_view.proofs.views.MayBeSeenRowJudge.kept.Goals as goal
+use Rattle.scim_view.proofs.views.MayBeSeenRowJudge.kept.Goals.{then-not-is_hidden, else-not-is_hidden}
 
 pub loop-index-preserved : goal.loop-index-preserved
 loop-index-preserved c =
@@ -13,7 +13,7 @@ loop-index-preserved c =
     let i = c.loop-index.index in
     let f = c.field-item.result in
     let allows : Field → Bool = λ g. (decision_in (rules_in self.patterns.now) row g.leaf).allow in
-    let shows : Field → Bool = λ g. may_be_seen_in (decision_in (rules_in self.patterns.now)) self.kind row g.leaf in
+    let shows : Field → Bool = λ g. may_be_seen (decision_in (rules_in self.patterns.now)) self.kind row g.leaf in
     let within : i < length row.fields = subst (λ (fs : List Field). i < length fs) c.fields-field-items.ensures c.loop-index-test.true in
     let there : f ≡ get_or row.fields i f = c.field-item.is ∙ ap (λ (fs : List Field). get_or fs i f) c.fields-field-items.ensures in
     let one = c.index-is_allowed.result.now in
