@@ -99,7 +99,7 @@ module _ (keep : Attribute → Bool) (p q : Content) (same : kept_rows keep (row
       (sym (values_kept (unit_of l) (rows p) own) ∙ ap (values (unit_of l)) same ∙ values_kept (unit_of l) (rows q) own)
 
 -- what may be seen of the attributes alone that a query names is alike to what may be seen of all, whatever groups list the resource
-pub seen_alike : (query : Query) (d : Leaf → Decision) (base : List ℕ) (gs : List Content) (c : Content) → IsPart c → names_groups query ≡ false
+pub seen_alike : (query : Query) (d : Row → Leaf → Decision) (base : List ℕ) (gs : List Content) (c : Content) → IsPart c → names_groups query ≡ false
     → Alike query (visible_attributes (attributes_of query) d c) (visible_with d (memberships base gs c.id) c)
 unfolding visible_attributes visible_with
 seen_alike query d base gs c part none =

@@ -26,8 +26,9 @@ use Rattle.scim_filter_grammar.specs.Tree.{Tree, Present, Compare}
 use Rattle.scim_filter.specs.Truth.{is_present, is_unlike, leaf_compares, compares, some_position, truth}
 use Rattle.scim_filter_grammar.specs.Types.{compared_leaf}
 use Rattle.scim_policy.specs.declared.rules.Decision.{Decision}
+use Rattle.scim_policy.specs.Patterns.{PatternRule, decisions_of}
 use Rattle.scim_policy.proofs.Facts.{PassesNames, kept_rows, truth_kept}
-use Rattle.scim_view.specs.View.{shows_some, visible_attributes}
+use Rattle.scim_view.specs.View.{decision_in, shows_some, visible_attributes}
 use Rattle.scim_view.specs.Groups.{memberships, visible_with}
 use Rattle.scim_view.proofs.Facts.{attributes_alike, none_shown}
 use Rattle.scim_query.specs.PossibleMatches.{rows_meant, StaysUnseen, is_asked_of_none}
@@ -84,24 +85,25 @@ position_fails inner (meant.Attribute a) rs e none =
 -- ---- what may not be seen
 
 -- an attribute of which nothing may be seen has no rows in what may be seen, whatever groups list the resource
-attribute_unseen : (a : Attribute) (d : Leaf → Decision) (base : List ℕ) (gs : List Content) (c : Content) → IsPart c → sameb the_attribute a Groups ≡ false → shows_some d c.kind a ≡ false
-    → filter (λ (r : Row). sameb the_attribute a r.unit.attribute) (rows (visible_with d (memberships base gs c.id) c)) ≡ []
-attribute_unseen a d base gs c part other hidden =
+attribute_unseen : (a : Attribute) (rules : Leaf → List PatternRule) (base : List ℕ) (gs : List Content) (c : Content) → IsPart c → sameb the_attribute a Groups ≡ false → shows_some (λ l. decisions_of (rules l)) c.kind a ≡ false
+    → filter (λ (r : Row). sameb the_attribute a r.unit.attribute) (rows (visible_with (decision_in rules) (memberships base gs c.id) c)) ≡ []
+attribute_unseen a rules base gs c part other hidden =
     let keep : Attribute → Bool = λ b. list_any (sameb the_attribute b) (a ∷ []) in
-    let full = rows (visible_with d (memberships base gs c.id) c) in
-    let none : rows (visible_attributes (a ∷ []) d c) ≡ [] = none_shown (a ∷ []) d c part (or_false (shows_some d c.kind a) ∙ hidden) in
-    let same = attributes_alike (a ∷ []) d base gs c part (or_false (sameb the_attribute Groups a) ∙ same_turned Groups a ∙ other) in
+    let full = rows (visible_with (decision_in rules) (memberships base gs c.id) c) in
+    let none : rows (visible_attributes (a ∷ []) (decision_in rules) c) ≡ [] = none_shown (a ∷ []) rules c part (or_false (shows_some (λ l. decisions_of (rules l)) c.kind a) ∙ hidden) in
+    let same = attributes_alike (a ∷ []) (decision_in rules) base gs c part (or_false (sameb the_attribute Groups a) ∙ same_turned Groups a ∙ other) in
     ap (λ (p : Attribute → Bool). filter (λ (r : Row). p r.unit.attribute) full) (fun_ext (λ b. same_turned a b ∙ sym (or_false (sameb the_attribute b a))))
     ∙ sym same ∙ ap (kept_rows keep) none
 
 -- nor has what a path means of it
-pub stays_unseen : (m : Meant) (a : Attribute) (kind : Kind) (d : Leaf → Decision) → mentioned_attribute m ≡ Some a → sameb the_attribute a Groups ≡ false → shows_some d kind a ≡ false → StaysUnseen m kind d
-stays_unseen m a kind d is other hidden c part same base gs =
-    ap (λ (o : Option Attribute). filter (λ (r : Row). option_eq is_same_attribute o (Some r.unit.attribute)) (rows (visible_with d (memberships base gs c.id) c))) is
-    ∙ attribute_unseen a d base gs c part other (rw same hidden)
+pub stays_unseen : (m : Meant) (a : Attribute) (kind : Kind) (rules : Leaf → List PatternRule) → mentioned_attribute m ≡ Some a → sameb the_attribute a Groups ≡ false → shows_some (λ l. decisions_of (rules l)) kind a ≡ false
+    → StaysUnseen m kind (decision_in rules)
+stays_unseen m a kind rules is other hidden c part same base gs =
+    ap (λ (o : Option Attribute). filter (λ (r : Row). option_eq is_same_attribute o (Some r.unit.attribute)) (rows (visible_with (decision_in rules) (memberships base gs c.id) c))) is
+    ∙ attribute_unseen a rules base gs c part other (rw same hidden)
 
 -- nor has what a path means that names nothing of the kind
-pub nothing_meant : (m : Meant) (kind : Kind) (d : Leaf → Decision) → mentioned_attribute m ≡ None → StaysUnseen m kind d
+pub nothing_meant : (m : Meant) (kind : Kind) (d : Row → Leaf → Decision) → mentioned_attribute m ≡ None → StaysUnseen m kind d
 nothing_meant m kind d is c part same base gs =
     let full = rows (visible_with d (memberships base gs c.id) c) in
     ap (λ (o : Option Attribute). filter (λ (r : Row). option_eq is_same_attribute o (Some r.unit.attribute)) full) is ∙ none_of full

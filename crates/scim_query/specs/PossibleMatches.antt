@@ -15,17 +15,17 @@ use Rattle.scim_policy.specs.declared.rules.Decision.{Decision}
 use Rattle.scim_view.specs.Groups.{memberships, visible_with}
 use Rattle.scim_query.specs.Pages.{is_match}
 
--- the filter doesn't match the part of the resource that these decisions make visible, whichever groups list
--- the resource
-abbrev pub NeverMatches : Option Filter → (Leaf → Decision) → Content → Type 0
+-- the filter doesn't match the part of the resource that these decisions on reading its values make visible,
+-- whichever groups list the resource
+abbrev pub NeverMatches : Option Filter → (Row → Leaf → Decision) → Content → Type 0
 NeverMatches filter decision c = (base : List ℕ) (groups : List Content) → is_match filter (visible_with decision (memberships base groups c.id) c) ≡ false
 
 -- for every resource of the kind and any groups, the rows that these decisions make visible satisfy P
-abbrev pub AllRows : (List Row → Type 0) → Kind → (Leaf → Decision) → Type 0
+abbrev pub AllRows : (List Row → Type 0) → Kind → (Row → Leaf → Decision) → Type 0
 AllRows P kind decision = (c : Content) → IsPart c → c.kind ≡ kind → (base : List ℕ) (groups : List Content) → P (rows (visible_with decision (memberships base groups c.id) c))
 
 -- for every resource of the kind and any groups, the rows that these decisions make visible fail the test
-abbrev pub NeverHolds : (List Row → Bool) → Kind → (Leaf → Decision) → Type 0
+abbrev pub NeverHolds : (List Row → Bool) → Kind → (Row → Leaf → Decision) → Type 0
 NeverHolds test kind decision = AllRows (λ rs. test rs ≡ false) kind decision
 
 -- the rows of the attribute in a path, which may also name a sub-attribute
@@ -33,7 +33,7 @@ abbrev pub rows_meant : Meant → List Row → List Row
 rows_meant m rs = filter (λ (r : Row). option_eq is_same_attribute (mentioned_attribute m) (Some r.unit.attribute)) rs
 
 -- in every resource of the kind, these decisions hide all rows of the attribute in the path
-abbrev pub StaysUnseen : Meant → Kind → (Leaf → Decision) → Type 0
+abbrev pub StaysUnseen : Meant → Kind → (Row → Leaf → Decision) → Type 0
 StaysUnseen m kind decision = AllRows (λ rs. rows_meant m rs ≡ []) kind decision
 
 -- whether the bracketed filter of a value path is evaluated even if the attribute has no

@@ -45,30 +45,32 @@ impl<'q> Pager<'q> {
         }
     }
 
-    /// Takes the next part. If the query has no sort key, parts must come in ascending order of id.
+    /// Takes the next part. Returns whether the part is now held. If the query has no sort key, parts must come in
+    /// ascending order of id.
     /// Fails with `NoMemory` also if the number of matches overflows `usize`. On an error the pager is
     /// unchanged.
-    pub fn push(&mut self, part: Part) -> Result<(), NoMemory>
+    pub fn push(&mut self, part: Part) -> Result<bool, NoMemory>
         ensures query { spec.query_of self.new ≡ spec.query_of self.old }
         ensures taken { OnOk result ((parts : List _) → spec.HasTaken parts self.old
             → spec.HasTaken (parts ++ part ∷ []) self.new) }
         ensures refused { OnErr result (spec.IsUnchanged self.old self.new) }
     {
         if !is_matching(self.alloc, self.query, &part)? {
-            return Ok(());
+            return Ok(false);
         }
         let key = key_by(self.alloc, self.query.sort_by, &part)?;
         let held = self.held.as_slice();
-        match place_of(held, self.query, self.total, &key, part.id()) {
-            Some(place) => self.hold(place, KeptPart { key, part }),
-            None => self.pass(),
-        }
+        let Some(place) = place_of(held, self.query, self.total, &key, part.id()) else {
+            self.pass()?;
+            return Ok(false);
+        };
+        self.hold(place, KeptPart { key, part })?;
+        Ok(true)
     }
 
-    /// Like [`Pager::push`], for the part restricted to the fields that the test admits. Returns whether the
-    /// part is now held. If the part matches, its sort key is copied; if it is then held, its admitted fields
-    /// are copied too. Fails with `NoMemory` also if the number of matches overflows `usize`. On an error the
-    /// pager is unchanged.
+    /// Like [`Pager::push`], for the part restricted to the fields that the test admits. If the part matches, its
+    /// sort key is copied; if it is then held, its admitted fields are copied too. Fails with `NoMemory` also if
+    /// the number of matches overflows `usize`. On an error the pager is unchanged.
     pub fn push_where<T: RowTest>(&mut self, part: &Part, test: &T) -> Result<bool, NoMemory>
         ensures query { spec.query_of self.new ≡ spec.query_of self.old }
         ensures taken { OnOk result ((parts : List _) → spec.HasTaken parts self.old

@@ -21,8 +21,8 @@ use Rattle.scim_search.specs.declared.view_builders.ViewBuilder.{ViewBuilder}
 use Rattle.scim_search.specs.declared.visitors.GroupVisitor.{GroupVisitor}
 use Rattle.scim_search.specs.declared.visitors.ListingVisitor.{ListingVisitor}
 use Rattle.scim_search.specs.declared.visitors.SearchVisitor.{SearchVisitor}
-use Rattle.scim_search.specs.Decided.{Recalls}
-use Rattle.scim_search.specs.ReadDecisions.{AreDecisions}
+use Rattle.scim_search.specs.PatternCache.{Recalls}
+use Rattle.scim_search.specs.ReadPatterns.{ArePatterns}
 use Rattle.scim_search.specs.ViewBuilders.{made, made_of_all, part_of, IsViewBuilder}
 use Rattle.scim_search.specs.Visits.{TakesGroup, TakesListing, TakesResource, Tells}
 
@@ -33,16 +33,16 @@ ok_by (Err e) P Q make p = tt
 
 -- whether a group joins the index that a visitor has, or a list of them
 abbrev Joins : GroupVisitor → List Content → GroupVisitor → Type 0
-Joins v cs w = (groups : List Content) → AreDecisions (viewer_of v.viewer.now) v.decisions → IsIndexOf (viewer_of v.viewer.now) groups v.index
+Joins v cs w = (groups : List Content) → ArePatterns (viewer_of v.viewer.now) v.patterns → IsIndexOf (viewer_of v.viewer.now) groups v.index
     → IsIndexOf (viewer_of v.viewer.now) (groups ++ cs) w.index
 
--- what joins by the next visitor joins by one with the same viewer and decisions
-joins_as : (v j w : GroupVisitor) (cs : List Content) → j.viewer ≡ v.viewer → j.decisions ≡ v.decisions → Joins j cs w
-    → (groups : List Content) → AreDecisions (viewer_of v.viewer.now) v.decisions → IsIndexOf (viewer_of v.viewer.now) groups j.index
+-- what joins by the next visitor joins by one with the same viewer and patterns
+joins_as : (v j w : GroupVisitor) (cs : List Content) → j.viewer ≡ v.viewer → j.patterns ≡ v.patterns → Joins j cs w
+    → (groups : List Content) → ArePatterns (viewer_of v.viewer.now) v.patterns → IsIndexOf (viewer_of v.viewer.now) groups j.index
     → IsIndexOf (viewer_of v.viewer.now) (groups ++ cs) w.index
-joins_as v j w cs viewer decisions joins groups are is =
-    let are' : AreDecisions (viewer_of j.viewer.now) j.decisions
-    = subst (λ (u : Bor ViewerInCode). AreDecisions (viewer_of u.now) j.decisions) (sym viewer) (subst (AreDecisions (viewer_of v.viewer.now)) (sym decisions) are) in
+joins_as v j w cs viewer patterns joins groups are is =
+    let are' : ArePatterns (viewer_of j.viewer.now) j.patterns
+    = subst (λ (u : Bor ViewerInCode). ArePatterns (viewer_of u.now) j.patterns) (sym viewer) (subst (ArePatterns (viewer_of v.viewer.now)) (sym patterns) are) in
     let is' : IsIndexOf (viewer_of j.viewer.now) groups j.index = subst (λ (u : Bor ViewerInCode). IsIndexOf (viewer_of u.now) groups j.index) (sym viewer) is in
     subst (λ (u : Bor ViewerInCode). IsIndexOf (viewer_of u.now) (groups ++ cs) w.index) viewer (joins groups are' is')
 
@@ -54,7 +54,7 @@ took_groups v (c ∷ cs) w steps =
     let rest = took_groups j cs w steps.2 in
     λ groups are is.
     subst (λ (gs : List Content). IsIndexOf (viewer_of v.viewer.now) gs w.index) (append_assoc groups (c ∷ []) cs)
-    (joins_as v j w cs one.viewer one.decisions rest (groups ++ c ∷ []) are (one.index groups are is))
+    (joins_as v j w cs one.viewer one.patterns rest (groups ++ c ∷ []) are (one.index groups are is))
 
 -- what a visitor has been shown that lists a resource has been gathered
 pub took_listing : (v : Viewer) (cs : List Content) (id : List ℕ) (first : ListingVisitor) (ds : List Content) (last : ListingVisitor)
@@ -77,11 +77,11 @@ pub record TookResources (v : SearchVisitor) (ds : List Content) (w : SearchVisi
   pub query : w.pager.query ≡ v.pager.query
   pub taken : (groups parts : List Content) → IsViewBuilder groups v.builder → HasTaken parts v.pager
       → HasTaken (parts ++ made_by groups v.builder ds) w.pager
-  pub decided : (groups cs : List Content) (kind : Kind) → IsViewBuilder groups v.builder → All (λ d. find (is_at kind d.id) cs ≡ Some d) ds
-      → Recalls (viewer_of v.builder.viewer.now) kind cs v.decided → Recalls (viewer_of v.builder.viewer.now) kind cs w.decided
+  pub cached : (groups cs : List Content) (kind : Kind) → IsViewBuilder groups v.builder → All (λ d. find (is_at kind d.id) cs ≡ Some d) ds
+      → Recalls (viewer_of v.builder.viewer.now) kind cs v.cached → Recalls (viewer_of v.builder.viewer.now) kind cs w.cached
 
 pub took_resources : (v : SearchVisitor) (ds : List Content) (w : SearchVisitor) → FoldsTo TakesResource v ds w → TookResources v ds w
-took_resources v [] w same = rw (← same) (record { query = refl; taken = λ groups parts is was. rw (append-nil parts) was; decided = λ groups cs kind is founds was. was })
+took_resources v [] w same = rw (← same) (record { query = refl; taken = λ groups parts is was. rw (append-nil parts) was; cached = λ groups cs kind is founds was. was })
 took_resources v (d ∷ ds) w steps =
     let j = steps.0 in
     let one = steps.1 in
@@ -96,10 +96,10 @@ took_resources v (d ∷ ds) w steps =
           let more : HasTaken ((parts ++ first) ++ made_by groups j.builder ds) w.pager
           = rest.taken groups (parts ++ first) (subst (IsViewBuilder groups) (sym one.builder) is) (one.taken groups parts is was) in
           subst (λ (t : List Content). HasTaken t w.pager) all (subst (λ (s : ViewBuilder). HasTaken ((parts ++ first) ++ made_by groups s ds) w.pager) one.builder more);
-      decided = λ groups cs kind is founds was.
+      cached = λ groups cs kind is founds was.
           let Found : Content → Type 0 = λ e. find (is_at kind e.id) cs ≡ Some e in
-          let kept = one.decided groups cs kind is (All-head Found d ds founds) was in
-          subst (λ (s : ViewBuilder). Recalls (viewer_of s.viewer.now) kind cs w.decided) one.builder
-          (rest.decided groups cs kind (subst (IsViewBuilder groups) (sym one.builder) is) (All-tail Found d ds founds)
-          (subst (λ (s : ViewBuilder). Recalls (viewer_of s.viewer.now) kind cs j.decided) (sym one.builder) kept));
+          let kept = one.cached groups cs kind is (All-head Found d ds founds) was in
+          subst (λ (s : ViewBuilder). Recalls (viewer_of s.viewer.now) kind cs w.cached) one.builder
+          (rest.cached groups cs kind (subst (IsViewBuilder groups) (sym one.builder) is) (All-tail Found d ds founds)
+          (subst (λ (s : ViewBuilder). Recalls (viewer_of s.viewer.now) kind cs j.cached) (sym one.builder) kept));
     }

@@ -1,12 +1,13 @@
 -- A search that looks at some attributes alone, and makes the items of its page whole, finds what a search over whole resources finds.
 use Rattle.std.proofs.Common.{◌≡◌, refl, sym, ◌∙◌, ap, subst, ℕ, zero, suc, true, false, List, [], ◌∷◌, ◌++◌, map, filter, slice_index_or, length, append_assoc, inl, inr, arith, true≢false}
-use Rattle.std.specs.Prelude.{◌==◌, All, AllPairs, Option, Some, find}
+use Rattle.std.specs.Prelude.{not, ◌&&◌, ◌==◌, All, AllPairs, Option, None, Some, find}
+use Rattle.std.specs.List.{list_any}
 use Rattle.std.proofs.Math.Path.{fun_ext}
 use Rattle.std.proofs.lemmas.Bool.{cases_Bool, false_from_ne_true}
 use Rattle.std.proofs.lemmas.Simd.{map-map}
 use Rattle.std.proofs.lemmas.Slice.Eq.{bytes_eq-Decides}
-use Rattle.std.proofs.lemmas.List.Elements.{All-head, All-tail, All-filter, filter_passes}
-use denote.Enum.Bare.{same_true}
+use Rattle.std.proofs.lemmas.List.Elements.{All-head, All-tail, All-filter, All-weaker, filter_passes}
+use denote.Enum.Bare.{sameb, same_true}
 use denote.Ref.{Bor}
 use Rattle.scim_schema.specs.declared.Attribute.{Attribute}
 use Rattle.scim_schema.specs.declared.Attribute.TheVariants.{Id}
@@ -20,13 +21,22 @@ use Rattle.scim_cell.specs.Kinds.{is_of, of_kind}
 use Rattle.scim_value.specs.Uniqueness.{AreApart}
 use Rattle.scim_filter_grammar.specs.declared.tree.Filter.{Filter}
 use Rattle.scim_policy.specs.declared.rules.Decision.{Decision}
+use Rattle.scim_policy.specs.declared.patterns.Patterns.{Patterns}
+use Rattle.scim_policy.specs.Decide.{decide}
+use Rattle.scim_policy.specs.Patterns.{PatternRule, decided_for, decide_in, decisions_of, whole_decision}
+use Rattle.scim_policy.specs.PatternTable.{last_decision, rules_in}
 use Rattle.scim_value.specs.Changes.{restricted_part}
-use Rattle.scim_cell.specs.Rows.{rows, restricted, content}
-use Rattle.scim_policy.specs.declared.decisions.Decisions.{Decisions}
-use Rattle.scim_policy.specs.Table.{decision}
-use Rattle.scim_view.specs.declared.views.MayBeSeenOf.{MayBeSeenOf}
+use Rattle.scim_cell.specs.declared.rows.Field.{Field}
+use Rattle.scim_cell.specs.Rows.{Row, rows, restricted, content, IsSoundField, IsSoundRow}
+use Rattle.scim_cell.proofs.Facts.{AreAlike, restricted_alike}
+use Rattle.scim_value.proofs.Facts.{sound_part}
+use Rattle.scim_filter.specs.Truth.{truth_in_value}
+use Rattle.scim_schema.specs.Mutability.{is_write_only}
+use Rattle.scim_schema.specs.declared.Unit.{Unit as AttributeUnit}
+use Rattle.scim_schema.specs.contracts.Attribute.{the_type as the_attribute}
+use Rattle.scim_view.specs.declared.views.MayBeSeenPlainlyOf.{MayBeSeenPlainlyOf}
 use Rattle.scim_view.specs.declared.viewers.Viewer.{Viewer as ViewerInCode}
-use Rattle.scim_view.specs.View.{Viewer, viewer_of, read_decision, sees, may_be_seen_of, visible_attributes}
+use Rattle.scim_view.specs.View.{Viewer, viewer_of, decision_in, read_in, sees, may_be_seen_of, visible_attributes}
 use Rattle.scim_view.specs.Groups.{and_those, memberships, visible_with, with_groups, view_with_groups, views, seen}
 use Rattle.scim_query.specs.declared.queries.Query.{Query}
 use Rattle.scim_query.specs.declared.queries.Page.{Page}
@@ -38,11 +48,11 @@ use Rattle.scim_shelf.specs.Stores.{Store, IsStore, is_at, is_group_with}
 use Rattle.scim_cell.specs.Ids.{id_text}
 use Rattle.scim_value.specs.Members.{lists}
 use Rattle.scim_schema.proofs.Facts.{and_first, and_second}
-use Rattle.scim_search.specs.declared.read_decisions.ReadDecisions.{ReadDecisions}
+use Rattle.scim_search.specs.declared.read_patterns.ReadPatterns.{ReadPatterns}
 use Rattle.scim_search.specs.declared.view_builders.ViewScope.TheVariants.{Named}
 use Rattle.scim_search.specs.declared.view_builders.ViewBuilder.{ViewBuilder}
-use Rattle.scim_search.specs.Decided.{AreOn}
-use Rattle.scim_search.specs.ReadDecisions.{AreDecisions, AreFor}
+use Rattle.scim_search.specs.PatternCache.{AreOn}
+use Rattle.scim_search.specs.ReadPatterns.{ArePatterns, AreFor}
 use Rattle.std.proofs.lemmas.Option.{same_Some}
 use Rattle.scim_search.specs.ViewBuilders.{made_of_all, IsViewBuilder}
 use Rattle.scim_search.specs.Walks.{SeenResource, made_of_kind}
@@ -128,11 +138,11 @@ all_seen v kind base store is = with_known v kind store.resources _ (known_each 
 
 -- what is seen of the attributes alone that a query names
 abbrev small : Viewer → Query → Content → Content
-small v query c = visible_attributes (attributes_of query) (read_decision v c) c
+small v query c = visible_attributes (attributes_of query) (read_in v c) c
 
 alike_seen : (v : Viewer) (query : Query) (gs : List Content) (c : Content) → IsPart c → names_groups query ≡ false → Alike query (small v query c) (with_groups v gs c)
 unfolding with_groups
-alike_seen v query gs c part none = seen_alike query (read_decision v c) v.base (seen v gs) c part none
+alike_seen v query gs c part none = seen_alike query (read_in v c) v.base (seen v gs) c part none
 
 module _ (v : Viewer) (kind : Kind) (gs : List Content) (query : Query) (base : List ℕ) (store : Store) (is : IsStore base store) (none : names_groups query ≡ false) where
   abbrev cs : List Content
@@ -165,26 +175,26 @@ module _ (v : Viewer) (kind : Kind) (gs : List Content) (query : Query) (base : 
       )
 
 -- a sight of some attributes is one of any groups
-pub named_sight : (viewer : Bor ViewerInCode) (attributes : Bor (List Attribute)) (decisions : Bor ReadDecisions) (builder : ViewBuilder) → AreDecisions (viewer_of viewer.now) decisions.now
-    → builder ≡ record { viewer = viewer; decisions = decisions; scope = Named attributes } → IsViewBuilder [] builder
-named_sight viewer attributes decisions builder are same = subst (IsViewBuilder []) (sym same) (record { decisions = are; index = tt })
+pub named_sight : (viewer : Bor ViewerInCode) (attributes : Bor (List Attribute)) (patterns : Bor ReadPatterns) (builder : ViewBuilder) → ArePatterns (viewer_of viewer.now) patterns.now
+    → builder ≡ record { viewer = viewer; patterns = patterns; scope = Named attributes } → IsViewBuilder [] builder
+named_sight viewer attributes patterns builder are same = subst (IsViewBuilder []) (sym same) (record { patterns = are; index = tt })
 
 -- the page by what is made at a sight of the attributes that a query names
 pub named_page : (viewer : Bor ViewerInCode) (kind : Kind) (query : Query) (base : List ℕ) (store : Store) → IsStore base store → (attributes : Bor (List Attribute)) → attributes.now ≡ attributes_of query
-    → names_groups query ≡ false → (found : Page) (decisions : Bor ReadDecisions) (builder : ViewBuilder) → AreDecisions (viewer_of viewer.now) decisions.now
-    → builder ≡ record { viewer = viewer; decisions = decisions; scope = Named attributes }
+    → names_groups query ≡ false → (found : Page) (patterns : Bor ReadPatterns) (builder : ViewBuilder) → ArePatterns (viewer_of viewer.now) patterns.now
+    → builder ≡ record { viewer = viewer; patterns = patterns; scope = Named attributes }
     → (IsViewBuilder [] builder → IsPage (made_of_kind [] builder kind store.resources) query found)
     → (shown : List (SeenResource (viewer_of viewer.now) kind store.resources)) × (found.items.items ≡ map (λ x. small (viewer_of viewer.now) query x.own) shown)
     × ((page : Page) → page.total ≡ found.total → page.start ≡ found.start → page.items.items ≡ map (λ x. with_groups (viewer_of viewer.now) (of_kind Group store.resources) x.own) shown
     → IsPage (views (viewer_of viewer.now) (of_kind Group store.resources) (of_kind kind store.resources)) query page)
-named_page viewer kind query base store is attributes named none found decisions builder are same paged =
+named_page viewer kind query base store is attributes named none found patterns builder are same paged =
     let v = viewer_of viewer.now in
     let cs = of_kind kind store.resources in
-    let known = named_sight viewer attributes decisions builder are same in
-    let made_here : IsPage (made_of_all (λ (c : Content). visible_attributes attributes.now (read_decision v c) c) v cs) query found
+    let known = named_sight viewer attributes patterns builder are same in
+    let made_here : IsPage (made_of_all (λ (c : Content). visible_attributes attributes.now (read_in v c) c) v cs) query found
     = subst (λ (s : ViewBuilder). IsPage (made_of_kind [] s kind store.resources) query found) same (paged known) in
     page_by_small v kind (of_kind Group store.resources) query base store is none found
-    (subst (λ (those : List Attribute). IsPage (made_of_all (λ (c : Content). visible_attributes those (read_decision v c) c) v cs) query found) named made_here)
+    (subst (λ (those : List Attribute). IsPage (made_of_all (λ (c : Content). visible_attributes those (read_in v c) c) v cs) query found) named made_here)
 
 -- the parts have the ids of the resources
 pub small_ids : (v : Viewer) (kind : Kind) (cs : List Content) (query : Query) (items : List Content) (shown : List (SeenResource v kind cs))
@@ -226,20 +236,20 @@ module _ (v : Viewer) (kind : Kind) (cs gs : List Content) where
       let one : mid ≡ old ++ with_groups v gs x.own ∷ [] = rw x.seen at told.1 in
       later told.0 xs others ∙ ap (λ (ps : List Content). ps ++ whole xs) one ∙ append_assoc old (with_groups v gs x.own ∷ []) (whole xs)
 
--- ---- whether the viewer sees a resource, by the decision on its `id`
+-- ---- whether the viewer sees a resource, by the rules of its `id`
 
-pub seen_by : (v : Viewer) (c : Content) (d : Decision) → d ≡ read_decision v c (simple Id) → d.allow ≡ sees v c
-unfolding sees
-seen_by v c d is = ap (λ (e : Decision). e.allow) is
+pub seen_by : (v : Viewer) (c : Content) (ps : Patterns) → AreFor v c ps → (whole_decision (decisions_of (rules_in ps (simple Id)))).allow ≡ sees v c
+unfolding sees decide
+seen_by v c ps are = ap (λ (rs : List PatternRule). (whole_decision (decisions_of rs)).allow) (are (simple Id))
 
 -- ---- resources that can't match
 
--- what never matches by decisions isn't seen to match, where they are those on reading it
-pub never_seen : (f : Option Filter) (d : Leaf → Decision) (v : Viewer) (gs : List Content) (c : Content) → ((l : Leaf) → d l ≡ read_decision v c l) → NeverMatches f d c
+-- what never matches by patterns isn't seen to match, where they are those on reading it
+pub never_seen : (f : Option Filter) (ps : Patterns) (v : Viewer) (gs : List Content) (c : Content) → AreFor v c ps → NeverMatches f (decision_in (rules_in ps)) c
     → is_match f (with_groups v gs c) ≡ false
-unfolding with_groups
-never_seen f d v gs c same never =
-    subst (λ (e : Leaf → Decision). is_match f (visible_with e (memberships v.base (seen v gs) c.id) c) ≡ false) (fun_ext same) (never v.base (seen v gs))
+unfolding with_groups decide_in
+never_seen f ps v gs c are never =
+    subst (λ (rules : Leaf → List PatternRule). is_match f (visible_with (decision_in rules) (memberships v.base (seen v gs) c.id) c) ≡ false) (fun_ext are) (never v.base (seen v gs))
 
 none_match : (f : Option Filter) (v : Viewer) (gs cs : List Content) → All (λ c. sees v c ≡ true → is_match f (with_groups v gs c) ≡ false) cs
     → [] ≡ matching f (views v gs cs)
@@ -262,19 +272,50 @@ none_matches v kind gs f base store is never =
     let own : All (λ c. is_of kind c ≡ true) cs = filter_passes (is_of kind) store.resources in
     none_match f v gs cs (λ k d lt. never _ (parts k d lt) (same_true the_kind tt _ kind (own k d lt)))
 
--- ---- decisions that are kept
+-- ---- patterns that are kept
 
--- what is decided on a resource that is found by its id is decided on the one of that id
-pub on_found : (v : Viewer) (kind : Kind) (cs : List Content) (id : List ℕ) (c : Content) (ds : Decisions) → id ≡ c.id
-    → find (is_at kind c.id) cs ≡ Some c → AreFor v c ds → AreOn v kind cs id ds
-on_found v kind cs id c ds same found are e at =
+-- patterns on a resource that is found by its id are those on the one of that id
+pub on_found : (v : Viewer) (kind : Kind) (cs : List Content) (id : List ℕ) (c : Content) (ps : Patterns) → id ≡ c.id
+    → find (is_at kind c.id) cs ≡ Some c → AreFor v c ps → AreOn v kind cs id ps
+on_found v kind cs id c ps same found are e at =
     let one : Some c ≡ Some e = sym found ∙ ap (λ (i : List ℕ). find (is_at kind i) cs) (sym same) ∙ at in
-    subst (λ (x : Content). AreFor v x ds) (same_Some c e one) are
+    subst (λ (x : Content). AreFor v x ps) (same_Some c e one) are
 
--- what the test of some attributes keeps of a resource is what may be seen of them
-pub named_part : (test : MayBeSeenOf) (attributes : Bor (List Attribute)) (kind : Kind) (decisions : Bor Decisions) (v : Viewer) (part c : Content)
-    → test ≡ record { attributes = attributes; seen = record { kind = kind; decisions = decisions } } → kind ≡ c.kind → part ≡ c → AreFor v c decisions.now
-    → restricted_part (may_be_seen_of test.attributes.now (decision test.seen.decisions.now) test.seen.kind) part ≡ visible_attributes attributes.now (read_decision v c) c
+-- ---- what may be seen of some attributes
+
+-- by patterns that are those on reading a resource
+pub made_attributes : (attributes : List Attribute) (ps : Patterns) (v : Viewer) (c : Content) → AreFor v c ps → visible_attributes attributes (decision_in (rules_in ps)) c ≡ visible_attributes attributes (read_in v c) c
+unfolding decide_in
+made_attributes attributes ps v c are = ap (λ (rules : Leaf → List PatternRule). visible_attributes attributes (decision_in rules) c) (fun_ext are)
+
+-- the pattern of each leaf of these attributes is its last rule
+abbrev pub ArePlainOn : List Attribute → Patterns → Type 0
+ArePlainOn attributes ps = (l : Leaf) → list_any (sameb the_attribute l.attribute) attributes ≡ true → rules_in ps l ≡ record { decision = last_decision ps l; filters = None } ∷ []
+
+-- then the last rules make visible what all do
+plain_field : (attributes : List Attribute) (ps : Patterns) (kind : Kind) (r : Row) (f : Field) → ArePlainOn attributes ps → IsSoundField kind r.unit f
+    → may_be_seen_of attributes (λ q. last_decision ps) kind r f.leaf ≡ may_be_seen_of attributes (decision_in (rules_in ps)) kind r f.leaf
+plain_field attributes ps kind r f plain sound = elim (cases_Bool (list_any (sameb the_attribute r.unit.attribute) attributes)) [
+  | inl t ↦
+      let own : list_any (sameb the_attribute f.leaf.attribute) attributes ≡ true = ap (λ (u : AttributeUnit). list_any (sameb the_attribute u.attribute) attributes) sound.0 ∙ t in
+      let one : decision_in (rules_in ps) r f.leaf ≡ last_decision ps f.leaf = ap (decided_for (λ tree. truth_in_value tree r)) (plain f.leaf own) in
+      rw t (ap (λ (d : Decision). not (is_write_only kind f.leaf) && d.allow) (sym one))
+  | inr n ↦ rw n refl
+]
+
+plain_rows : (attributes : List Attribute) (ps : Patterns) (c : Content) → IsPart c → ArePlainOn attributes ps
+    → restricted (may_be_seen_of attributes (λ q. last_decision ps) c.kind) (rows c) ≡ restricted (may_be_seen_of attributes (decision_in (rules_in ps)) c.kind) (rows c)
+plain_rows attributes ps c part plain =
+    let by_last = may_be_seen_of attributes (λ q. last_decision ps) c.kind in
+    let by_all = may_be_seen_of attributes (decision_in (rules_in ps)) c.kind in
+    restricted_alike by_last by_all (rows c)
+    (All-weaker (IsSoundRow c.kind) (AreAlike by_last by_all)
+    (λ r sound. All-weaker (IsSoundField c.kind r.unit) (λ (f : Field). by_last r f.leaf ≡ by_all r f.leaf) (λ f own. plain_field attributes ps c.kind r f plain own) r.fields sound.own) (rows c) (sound_part c part).own)
+
+-- so the test of the last rules keeps of a resource what may be seen of the attributes
+pub named_part : (test : MayBeSeenPlainlyOf) (attributes : Bor (List Attribute)) (kind : Kind) (patterns : Bor Patterns) (v : Viewer) (part c : Content)
+    → test ≡ record { attributes = attributes; seen = record { kind = kind; patterns = patterns } } → kind ≡ c.kind → part ≡ c → IsPart c → ArePlainOn attributes.now patterns.now → AreFor v c patterns.now
+    → restricted_part (may_be_seen_of test.attributes.now (λ q. last_decision test.seen.patterns.now) test.seen.kind) part ≡ visible_attributes attributes.now (read_in v c) c
 unfolding visible_attributes
-named_part test attributes kind decisions v part c is own same are =
-    rw (is, own, same) (ap (λ (d : Leaf → Decision). content c.kind c.id (restricted (may_be_seen_of attributes.now d c.kind) (rows c))) (fun_ext are))
+named_part test attributes kind patterns v part c is own same valid plain are =
+    rw (is, own, same) (ap (content c.kind c.id) (plain_rows attributes.now patterns.now c valid plain)) ∙ made_attributes attributes.now patterns.now v c are

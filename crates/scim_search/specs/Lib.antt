@@ -1,7 +1,7 @@
-pub mod Decided
+pub mod PatternCache
 pub mod GroupsBeside
 pub mod Lookups
-pub mod ReadDecisions
+pub mod ReadPatterns
 pub mod ViewBuilders
 pub mod Visits
 pub mod Walks

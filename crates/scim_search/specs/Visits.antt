@@ -13,36 +13,36 @@ use Rattle.scim_search.specs.declared.visitors.GroupVisitor.{GroupVisitor}
 use Rattle.scim_search.specs.declared.visitors.ListingVisitor.{ListingVisitor}
 use Rattle.scim_search.specs.declared.visitors.SearchVisitor.{SearchVisitor}
 use Rattle.scim_shelf.specs.Stores.{is_at}
-use Rattle.scim_search.specs.Decided.{Recalls}
-use Rattle.scim_search.specs.ReadDecisions.{AreDecisions}
+use Rattle.scim_search.specs.PatternCache.{Recalls}
+use Rattle.scim_search.specs.ReadPatterns.{ArePatterns}
 use Rattle.scim_search.specs.ViewBuilders.{IsViewBuilder, part_of}
 
--- the visitor keeps its viewer and its decisions, and adds the group to its index
+-- the visitor keeps its viewer and its patterns, and adds the group to its index
 pub record TakesGroup (old : GroupVisitor) (c : Content) (new : GroupVisitor) : Type 0 where
   pub viewer : new.viewer ≡ old.viewer
-  pub decisions : new.decisions ≡ old.decisions
-  pub index : (groups : List Content) → AreDecisions (viewer_of old.viewer.now) old.decisions → IsIndexOf (viewer_of old.viewer.now) groups old.index
+  pub patterns : new.patterns ≡ old.patterns
+  pub index : (groups : List Content) → ArePatterns (viewer_of old.viewer.now) old.patterns → IsIndexOf (viewer_of old.viewer.now) groups old.index
       → IsIndexOf (viewer_of old.viewer.now) (groups ++ c ∷ []) new.index
 
--- the decisions of the visitor and its cached decisions are the policy's decisions on the viewer's read
--- access to the groups among these resources
+-- the patterns of the visitor and its cached patterns are those of the viewer's reading of the groups among these
+-- resources
 pub record Tells (v : Viewer) (cs : List Content) (listing : ListingVisitor) : Type 0 where
   pub viewer : viewer_of listing.viewer.now ≡ v
-  pub decisions : AreDecisions v listing.decisions
-  pub decided : Recalls v Group cs listing.decided
+  pub patterns : ArePatterns v listing.patterns
+  pub cached : Recalls v Group cs listing.cached
 
--- when the visitor takes a group, its decisions stay correct, and it adds the group to the gathered groups if
+-- when the visitor takes a group, its patterns stay correct, and it adds the group to the gathered groups if
 -- the group lists the resource
 abbrev pub TakesListing : ListingVisitor → Content → ListingVisitor → Type 0
 TakesListing old c new = (v : Viewer) (cs : List Content) → find (is_at Group c.id) cs ≡ Some c → Tells v cs old
     → Tells v cs new × ((id : List ℕ) (gathered : List Content) → lists id c ≡ true → AreListing v id gathered old.groups → AreListing v id (gathered ++ c ∷ []) new.groups)
 
 -- the visitor keeps its builder and its query, its pager takes the part of the resource if the viewer sees
--- the resource, and its cached decisions stay correct
+-- the resource, and its cached patterns stay correct
 pub record TakesResource (old : SearchVisitor) (c : Content) (new : SearchVisitor) : Type 0 where
   pub builder : new.builder ≡ old.builder
   pub query : new.pager.query ≡ old.pager.query
   pub taken : (groups parts : List Content) → IsViewBuilder groups old.builder → HasTaken parts old.pager
       → HasTaken (parts ++ and_those (part_of groups old.builder c) []) new.pager
-  pub decided : (groups cs : List Content) (kind : Kind) → IsViewBuilder groups old.builder → find (is_at kind c.id) cs ≡ Some c
-      → Recalls (viewer_of old.builder.viewer.now) kind cs old.decided → Recalls (viewer_of old.builder.viewer.now) kind cs new.decided
+  pub cached : (groups cs : List Content) (kind : Kind) → IsViewBuilder groups old.builder → find (is_at kind c.id) cs ≡ Some c
+      → Recalls (viewer_of old.builder.viewer.now) kind cs old.cached → Recalls (viewer_of old.builder.viewer.now) kind cs new.cached

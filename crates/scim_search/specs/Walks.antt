@@ -11,8 +11,8 @@ use Rattle.scim_view.specs.Indexes.{IsIndexOf}
 use Rattle.scim_shelf.specs.Stores.{is_at}
 use Rattle.scim_search.specs.declared.view_builders.ViewBuilder.{ViewBuilder}
 use Rattle.scim_search.specs.declared.whole_items.ItemBuilder.{ItemBuilder}
-use Rattle.scim_search.specs.Decided.{Recalls}
-use Rattle.scim_search.specs.ReadDecisions.{AreDecisions}
+use Rattle.scim_search.specs.PatternCache.{Recalls}
+use Rattle.scim_search.specs.ReadPatterns.{ArePatterns}
 use Rattle.scim_search.specs.ViewBuilders.{made, made_of_all}
 
 -- with the groups of the index, the viewer has the same view of each resource of the kind as with all groups
@@ -26,11 +26,10 @@ pub record IndexTells (v : Viewer) (kind : Kind) (cs : List Content) (index : Gr
 abbrev pub made_of_kind : List Content → ViewBuilder → Kind → List Content → List Content
 made_of_kind groups builder kind cs = made_of_all (made (viewer_of builder.viewer.now) groups builder.scope) (viewer_of builder.viewer.now) (of_kind kind cs)
 
--- the decisions of the builder and its cached decisions are the policy's decisions on the viewer's read
--- access
+-- the patterns of the builder and its cached patterns are those of the viewer's reading
 pub record IsItemBuilder (cs : List Content) (builder : ItemBuilder) : Type 0 where
-  pub decisions : AreDecisions (viewer_of builder.viewer.now) builder.decisions.now
-  pub decided : Recalls (viewer_of builder.viewer.now) builder.kind cs builder.decided.now
+  pub patterns : ArePatterns (viewer_of builder.viewer.now) builder.patterns.now
+  pub cached : Recalls (viewer_of builder.viewer.now) builder.kind cs builder.cached.now
 
 -- a resource of the kind that the viewer sees, and that a look-up of its id finds
 pub record SeenResource (v : Viewer) (kind : Kind) (cs : List Content) : Type 0 where

@@ -8,17 +8,17 @@ ghost use Rattle.scim_view.specs.View.{Viewer as SpecViewer, viewer_of};
 ghost use Rattle.scim_shelf.specs.Shelves.{Answers, IsReadFrom, OnlyReads};
 ghost use Rattle.scim_shelf.specs.Stores.{IsStore};
 ghost use Rattle.scim_search.specs.GroupsBeside as spec;
-ghost use Rattle.scim_search.specs.ReadDecisions.{AreFor};
+ghost use Rattle.scim_search.specs.ReadPatterns.{AreFor};
 ghost use Rattle.scim_search.specs.Visits.{Tells};
 
 use crate::visitors::ListingVisitor;
 use scim_cell::Id;
-use scim_policy::Decisions;
-use scim_schema::{Attribute, Kind, Leaf};
+use scim_policy::Patterns;
+use scim_schema::Kind;
 use scim_shelf::{Shelf, ShelfFault};
 use scim_text::Failed;
 use scim_value::{Part, Resource};
-use scim_view::{ListingGroups, Viewer};
+use scim_view::{ListingGroups, Viewer, shows_id};
 use std::alloc::Global;
 
 /// Returns the groups that appear in the `groups` of a resource: the groups in which the client sees the
@@ -36,7 +36,7 @@ pub fn groups_beside<S: Shelf>(
         spec.TellGroups (viewer_of viewer.now) store.resources resource.now groups) }
     ensures read { OnlyReads S.stands S.is_honest S.failures shelf.old shelf.new result }
 {
-    let mut listing = ListingVisitor::new(alloc, viewer)?;
+    let mut listing = ListingVisitor::new(alloc, viewer, resource.id())?;
     gather_groups(alloc, &mut listing, shelf, resource)?;
     Ok(listing.end())
 }
@@ -55,7 +55,7 @@ fn gather_groups<S: Shelf>(
         × spec.TellGroups v store.resources resource.now listing.new.groups)) }
     ensures read { OnlyReads S.stands S.is_honest S.failures shelf.old shelf.new result }
 {
-    listing.clear(alloc);
+    listing.clear(alloc, resource.id());
     match resource.kind() {
         Kind::User => gather_listing(alloc, listing, shelf, resource),
         Kind::Group => Ok(()),
@@ -82,29 +82,28 @@ fn gather_listing<S: Shelf>(
     shelf.groups_with(alloc, value, listing)
 }
 
-/// Returns the part of the resource that `decisions` let the client see, with its computed `groups`; `None`
+/// Returns the part of the resource that `patterns` let the client see, with its computed `groups`; `None`
 /// if the client may not read the `id`.
 pub(crate) fn view_beside<S: Shelf>(
     alloc: Global,
     viewer: &Viewer<'_>,
-    decisions: &Decisions,
+    patterns: &Patterns<'_>,
     listing: &mut ListingVisitor<'_>,
     shelf: &mut S,
     resource: &Resource,
 ) -> Result<Option<Part>, Failed<ShelfFault>>
     ensures part { IsReadFrom S.stands S.is_honest shelf.old shelf.new result (λ store part.
-        AreFor (viewer_of viewer.now) resource.now decisions.now
+        AreFor (viewer_of viewer.now) resource.now patterns.now
         → Tells (viewer_of viewer.now) store.resources listing.old
         → Tells (viewer_of viewer.now) store.resources listing.new
         × (part ≡ view_with_groups (viewer_of viewer.now)
         (of_kind Kind.Group store.resources) resource.now)) }
     ensures read { OnlyReads S.stands S.is_honest S.failures shelf.old shelf.new result }
 {
-    let seen = decisions.of(Leaf::simple(Attribute::Id));
-    if !seen.allow {
+    if !shows_id(patterns) {
         return Ok(None);
     }
     gather_groups(alloc, listing, shelf, resource)?;
-    let part = viewer.with_groups_by(alloc, decisions, listing.groups(), resource)?;
+    let part = viewer.with_groups_by(alloc, patterns, listing.groups(), resource)?;
     Ok(Some(part))
 }

@@ -2,11 +2,11 @@
 //! 7644 section 3.4.2), and the groups that appear in the `groups` of a resource (RFC 7643 section 4.1.2).
 #![tactic(auto)]
 
-mod decision_cache;
 mod groups_of_resource;
 mod lookups;
 mod pages;
-mod read_decisions;
+mod pattern_cache;
+mod read_patterns;
 mod view_builders;
 mod visitors;
 mod walks;

@@ -86,9 +86,9 @@ fn seen_part<S: Shelf>(
     if resource.kind() != kind {
         return Ok(None);
     }
-    let decisions = viewer.decisions(alloc, resource)?;
-    let mut listing = ListingVisitor::new(alloc, viewer)?;
-    view_beside(alloc, viewer, &decisions, &mut listing, shelf, resource)
+    let patterns = viewer.patterns(alloc, resource)?;
+    let mut listing = ListingVisitor::new(alloc, viewer, resource.id())?;
+    view_beside(alloc, viewer, &patterns, &mut listing, shelf, resource)
 }
 
 /// Returns the part of the found resource that the client sees, with its computed `groups`; `None` if no

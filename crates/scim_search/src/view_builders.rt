@@ -1,19 +1,19 @@
 //! Builds the part of each resource on which a search evaluates its query.
 ghost use Rattle.std.specs.Prelude.{◌≡◌, ◌++◌, [], List, IfOk, IfSome, OnOk};
 ghost use Rattle.scim_cell.specs.Content.{Content};
-ghost use Rattle.scim_view.specs.View.{Viewer as SpecViewer, read_decision, visible_attributes as seen_attributes, viewer_of};
+ghost use Rattle.scim_view.specs.View.{Viewer as SpecViewer, read_in, visible_attributes as seen_attributes, viewer_of};
 ghost use Rattle.scim_view.specs.Groups.{and_those};
 ghost use Rattle.scim_query.specs.Pagers.{HasTaken, query_of};
-ghost use Rattle.scim_search.specs.ReadDecisions.{AreFor};
+ghost use Rattle.scim_search.specs.ReadPatterns.{AreFor};
 ghost use Rattle.scim_search.specs.ViewBuilders as spec;
 
-use crate::read_decisions::ReadDecisions;
-use scim_policy::Decisions;
+use crate::read_patterns::ReadPatterns;
+use scim_policy::Patterns;
 use scim_query::Pager;
-use scim_schema::{Attribute, Leaf};
+use scim_schema::Attribute;
 use scim_text::NoMemory;
 use scim_value::{Part, Resource};
-use scim_view::{GroupIndex, MayBeSeenOf, Viewer};
+use scim_view::{GroupIndex, MayBeSeenPlainlyOf, Viewer, shows_id, visible_attributes};
 use std::alloc::Global;
 
 /// Which part of each resource is built.
@@ -29,104 +29,112 @@ pub(crate) enum ViewScope<'a> {
 #[derive(Clone, Copy)]
 pub(crate) struct ViewBuilder<'a> {
     viewer: &'a Viewer<'a>,
-    decisions: &'a ReadDecisions<'a>,
+    patterns: &'a ReadPatterns<'a>,
     scope: ViewScope<'a>,
 }
 
 impl<'a> ViewBuilder<'a> {
-    /// Returns a builder for this viewer and scope. `decisions` are the decisions on the viewer's read access
-    /// to the resources of a kind.
+    /// Returns a builder for this viewer and scope. `patterns` are those of the viewer's reading of the resources
+    /// of a kind.
     pub(crate) fn new(
         viewer: &'a Viewer<'a>,
-        decisions: &'a ReadDecisions<'a>,
+        patterns: &'a ReadPatterns<'a>,
         scope: ViewScope<'a>,
     ) -> ViewBuilder<'a>
         ensures { result ≡ record {
           viewer = viewer.entry;
-          decisions = decisions.entry;
+          patterns = patterns.entry;
           scope =
               scope.entry;
         } }
     {
         ViewBuilder {
             viewer,
-            decisions,
+            patterns,
             scope,
         }
     }
 
-    /// Returns the decisions on all resources of the kind; `None` if they differ by resource, or if this
+    /// Returns the patterns on all resources of the kind; `None` if they differ by resource, or if this
     /// resource isn't of the kind.
-    pub(crate) fn on_all(&self, resource: &Resource) -> Option<&Decisions>
+    pub(crate) fn on_all(&self, resource: &Resource) -> Option<&Patterns<'a>>
         ensures { (groups : List Content) → spec.IsViewBuilder groups self.now
-            → IfSome result (λ decisions.
-            AreFor (viewer_of self.now.viewer.now) resource.now decisions.now) }
+            → IfSome result (λ patterns.
+            AreFor (viewer_of self.now.viewer.now) resource.now patterns.now) }
     {
-        self.decisions.on_all(resource)
+        self.patterns.on_all(resource)
     }
 
-    /// Returns the decisions on reading the resource, without using a cache.
-    pub(crate) fn decide(&self, alloc: Global, resource: &Resource) -> Result<Decisions, NoMemory>
-        ensures { IfOk result (λ decisions. (groups : List Content)
+    /// Returns the patterns on the resource, without using a cache.
+    pub(crate) fn on(&self, alloc: Global, resource: &Resource) -> Result<Patterns<'a>, NoMemory>
+        ensures { IfOk result (λ patterns. (groups : List Content)
             → spec.IsViewBuilder groups self.now
-            → AreFor (viewer_of self.now.viewer.now) resource.now decisions) }
+            → AreFor (viewer_of self.now.viewer.now) resource.now patterns) }
     {
-        self.decisions.on(alloc, self.viewer, resource)
+        self.patterns.on(alloc, self.viewer, resource)
     }
 
-    /// Builds the part of the resource and passes it to the pager, if `decisions` let the client see the
+    /// Builds the part of the resource and passes it to the pager, if `patterns` let the client see the
     /// resource. Returns whether the pager now holds a part with only the named attributes, so that the
-    /// decisions will be needed again.
+    /// patterns will be needed again.
     pub(crate) fn show(
         &self,
         alloc: Global,
-        decisions: &Decisions,
+        patterns: &Patterns<'_>,
         resource: &Resource,
         pager: &mut Pager<'_>,
     ) -> Result<bool, NoMemory>
         ensures query { query_of pager.new ≡ query_of pager.old }
         ensures taken { OnOk result ((groups parts : List Content)
             → spec.IsViewBuilder groups self.now
-            → AreFor (viewer_of self.now.viewer.now) resource.now decisions.now
+            → AreFor (viewer_of self.now.viewer.now) resource.now patterns.now
             → HasTaken parts pager.old
             → HasTaken (parts ++ and_those (spec.part_of groups self.now resource.now) [])
             pager.new) }
     {
         match self.scope {
-            ViewScope::Named(attributes) => show_named(decisions, attributes, resource, pager),
+            ViewScope::Named(attributes) => {
+                show_named(alloc, patterns, attributes, resource, pager)
+            }
             ViewScope::Whole(index) => {
-                let part = self
-                    .viewer
-                    .view_by_index(alloc, decisions, index, resource)?;
+                let part = self.viewer.view_by_index(alloc, patterns, index, resource)?;
                 show_if_seen(part, pager)
             }
         }
     }
 }
 
-/// Passes the visible part of these attributes to the pager, if the client may read the `id` by `decisions`.
-/// Returns whether the pager now holds the part. The part is copied only in that case.
+/// Passes the visible part of these attributes to the pager, if the client may read the `id` by `patterns`.
+/// Returns whether the pager now holds the part.
+///
+/// If no value filter is on these attributes, the part is copied only in that case. Otherwise it is made first,
+/// since asking a value filter may want memory.
 fn show_named(
-    decisions: &Decisions,
+    alloc: Global,
+    patterns: &Patterns<'_>,
     attributes: &[Attribute],
     resource: &Resource,
     pager: &mut Pager<'_>,
 ) -> Result<bool, NoMemory>
     ensures query { query_of pager.new ≡ query_of pager.old }
     ensures taken { OnOk result ((v : SpecViewer) (parts : List Content)
-        → AreFor v resource.now decisions.now → HasTaken parts pager.old
+        → AreFor v resource.now patterns.now → HasTaken parts pager.old
         → HasTaken (parts ++ and_those
-        (spec.made_part (λ c. seen_attributes attributes.now (read_decision v c) c) v
+        (spec.made_part (λ c. seen_attributes attributes.now (read_in v c) c) v
         resource.now) []) pager.new) }
 {
-    if !decisions.of(Leaf::simple(Attribute::Id)).allow {
+    if !shows_id(patterns) {
         return Ok(false);
     }
-    let test = MayBeSeenOf::new(attributes, resource.kind(), decisions);
-    pager.push_where(resource.part(), &test)
+    if patterns.is_plain_on(attributes) {
+        let test = MayBeSeenPlainlyOf::new(attributes, resource.kind(), patterns);
+        return pager.push_where(resource.part(), &test);
+    }
+    let part = visible_attributes(alloc, attributes, patterns, resource)?;
+    pager.push(part)
 }
 
-/// Passes a whole part to the pager, if there is one. Always returns false: the decisions aren't needed
+/// Passes a whole part to the pager, if there is one. Always returns false: the patterns aren't needed
 /// again.
 fn show_if_seen(part: Option<Part>, pager: &mut Pager<'_>) -> Result<bool, NoMemory>
     ensures query { query_of pager.new ≡ query_of pager.old }

@@ -6,14 +6,15 @@ ghost use Rattle.scim_view.specs.Indexes.{IsIndexOf};
 ghost use Rattle.scim_view.specs.View.{Viewer as SpecViewer, viewer_of};
 ghost use Rattle.scim_query.specs.Pages.{IsPage};
 ghost use Rattle.scim_query.specs.Pagers.{HasTaken, ComeInOrder, query_of};
-ghost use Rattle.scim_search.specs.ReadDecisions.{AreDecisions};
+ghost use Rattle.scim_search.specs.ReadPatterns.{ArePatterns};
 ghost use Rattle.scim_view.specs.Listings.{AreListing};
-ghost use Rattle.scim_search.specs.Decided.{Recalls};
+ghost use Rattle.scim_search.specs.PatternCache.{Recalls};
 ghost use Rattle.scim_search.specs.Visits.{TakesGroup, TakesListing, TakesResource, Tells};
 
-use crate::decision_cache::Decided;
-use crate::read_decisions::ReadDecisions;
+use crate::pattern_cache::PatternCache;
+use crate::read_patterns::ReadPatterns;
 use crate::view_builders::ViewBuilder;
+use scim_cell::Id;
 use scim_query::{Page, Pager, Query};
 use scim_schema::Kind;
 use scim_shelf::Visitor;
@@ -26,7 +27,7 @@ use std::alloc::Global;
 #[derive(Drop)]
 pub(crate) struct GroupVisitor<'a> {
     viewer: &'a Viewer<'a>,
-    decisions: ReadDecisions<'a>,
+    patterns: ReadPatterns<'a>,
     index: GroupIndex,
 }
 
@@ -34,14 +35,14 @@ impl<'a> GroupVisitor<'a> {
     /// Returns a visitor with an empty index.
     pub(crate) fn new(alloc: Global, viewer: &'a Viewer<'a>) -> Result<GroupVisitor<'a>, NoMemory>
         ensures viewer { IfOk result (λ visitor. visitor.viewer ≡ viewer.entry) }
-        ensures decisions { IfOk result (λ visitor.
-            AreDecisions (viewer_of viewer.entry.now) visitor.decisions) }
+        ensures patterns { IfOk result (λ visitor.
+            ArePatterns (viewer_of viewer.entry.now) visitor.patterns) }
         ensures index { IfOk result (λ visitor. (v : SpecViewer) → IsIndexOf v [] visitor.index) }
     {
-        let decisions = ReadDecisions::of(alloc, viewer, Kind::Group)?;
+        let patterns = ReadPatterns::of(alloc, viewer, Kind::Group)?;
         Ok(GroupVisitor {
             viewer,
-            decisions,
+            patterns,
             index: GroupIndex::new(alloc),
         })
     }
@@ -58,49 +59,54 @@ impl<'a> Visitor for GroupVisitor<'a> {
     ghost takes = { TakesGroup };
 
     fn take(&mut self, alloc: Global, resource: &Resource) -> Result<(), NoMemory> {
-        match self.decisions.on_all(resource) {
-            Some(decisions) => self.index.push(alloc, decisions, resource),
+        match self.patterns.on_all(resource) {
+            Some(patterns) => self.index.push(alloc, patterns, resource),
             None => {
-                let decisions = self.decisions.on(alloc, self.viewer, resource)?;
-                self.index.push(alloc, &decisions, resource)
+                let patterns = self.patterns.on(alloc, self.viewer, resource)?;
+                self.index.push(alloc, &patterns, resource)
             }
         }
     }
 }
 
 /// A visitor that gathers the groups in which a client sees a resource as a member. One visitor serves all
-/// resources of a request, so the policy isn't evaluated twice on a group whose decisions are still cached
-/// ([`Decided`]).
+/// resources of a request, so the policy isn't evaluated twice on a group whose patterns are still cached
+/// ([`PatternCache`]).
 #[derive(Drop)]
 pub(crate) struct ListingVisitor<'a> {
     viewer: &'a Viewer<'a>,
-    decisions: ReadDecisions<'a>,
-    decided: Decided,
+    patterns: ReadPatterns<'a>,
+    cached: PatternCache<'a>,
     groups: ListingGroups,
 }
 
 impl<'a> ListingVisitor<'a> {
-    /// Returns a visitor without groups.
-    pub(crate) fn new(alloc: Global, viewer: &'a Viewer<'a>) -> Result<ListingVisitor<'a>, NoMemory>
+    /// Returns a visitor without groups, for the resource with the id `member`.
+    pub(crate) fn new(
+        alloc: Global,
+        viewer: &'a Viewer<'a>,
+        member: Id,
+    ) -> Result<ListingVisitor<'a>, NoMemory>
         ensures { IfOk result (λ listing. (cs : List Content)
             → Tells (viewer_of viewer.entry.now) cs listing) }
     {
-        let decisions = ReadDecisions::of(alloc, viewer, Kind::Group)?;
+        let patterns = ReadPatterns::of(alloc, viewer, Kind::Group)?;
         Ok(ListingVisitor {
             viewer,
-            decisions,
-            decided: Decided::new(alloc),
-            groups: ListingGroups::new(alloc),
+            patterns,
+            cached: PatternCache::new(alloc),
+            groups: ListingGroups::new(alloc, member),
         })
     }
 
-    /// Drops the gathered groups, so that the groups of another resource can be gathered. Doesn't allocate.
-    pub(crate) fn clear(&mut self, alloc: Global)
+    /// Drops the gathered groups, so that the groups of the resource with the id `member` can be gathered. Doesn't
+    /// allocate.
+    pub(crate) fn clear(&mut self, alloc: Global, member: Id)
         ensures tells { (v : SpecViewer) (cs : List Content) → Tells v cs self.old
             → Tells v cs self.new }
-        ensures groups { (v : SpecViewer) (id : List ℕ) → AreListing v id [] self.new.groups }
+        ensures groups { (v : SpecViewer) → AreListing v member [] self.new.groups }
     {
-        self.groups = ListingGroups::new(alloc);
+        self.groups = ListingGroups::new(alloc, member);
     }
 
     /// Returns the gathered groups.
@@ -122,12 +128,12 @@ impl<'a> Visitor for ListingVisitor<'a> {
     ghost takes = { TakesListing };
 
     fn take(&mut self, alloc: Global, resource: &Resource) -> Result<(), NoMemory> {
-        if let Some(decisions) = self.decisions.known(&self.decided, resource) {
-            return self.groups.push(alloc, decisions, resource);
+        if let Some(patterns) = self.patterns.known(&self.cached, resource) {
+            return self.groups.push(alloc, patterns, resource);
         }
-        let decisions = self.decisions.on(alloc, self.viewer, resource)?;
-        self.groups.push(alloc, &decisions, resource)?;
-        self.decided.keep(resource.id(), decisions)
+        let patterns = self.patterns.on(alloc, self.viewer, resource)?;
+        self.groups.push(alloc, &patterns, resource)?;
+        self.cached.keep(resource.id(), patterns)
     }
 }
 
@@ -136,16 +142,16 @@ impl<'a> Visitor for ListingVisitor<'a> {
 pub(crate) struct SearchVisitor<'a> {
     builder: ViewBuilder<'a>,
     pager: Pager<'a>,
-    /// The cached decisions on resources that the pager holds or has held.
-    decided: Decided,
+    /// The cached patterns on resources that the pager holds or has held.
+    cached: PatternCache<'a>,
 }
 
 /// The result of a search over all resources of a kind.
 #[derive(Drop)]
-pub(crate) struct Found {
+pub(crate) struct Found<'a> {
     pub(crate) page: Page,
-    /// The cached decisions on resources that may be on the page.
-    pub(crate) decided: Decided,
+    /// The cached patterns on resources that may be on the page.
+    pub(crate) cached: PatternCache<'a>,
 }
 
 impl<'a> SearchVisitor<'a> {
@@ -158,28 +164,28 @@ impl<'a> SearchVisitor<'a> {
         ensures builder { result.builder ≡ builder.entry }
         ensures query { query_of result.pager ≡ query.entry }
         ensures taken { HasTaken [] result.pager }
-        ensures decided { (v : SpecViewer) (kind : SpecKind) (cs : List Content)
-            → Recalls v kind cs result.decided }
+        ensures cached { (v : SpecViewer) (kind : SpecKind) (cs : List Content)
+            → Recalls v kind cs result.cached }
     {
         SearchVisitor {
             builder,
             pager: Pager::new(alloc, query),
-            decided: Decided::new(alloc),
+            cached: PatternCache::new(alloc),
         }
     }
 
-    /// Consumes the visitor and returns the page and the cached decisions.
-    pub(crate) fn end(self) -> Result<Found, NoMemory>
+    /// Consumes the visitor and returns the page and the cached patterns.
+    pub(crate) fn end(self) -> Result<Found<'a>, NoMemory>
         ensures page { IfOk result (λ found. (parts : List Content)
             → HasTaken parts self.entry.pager
             → ComeInOrder (query_of self.entry.pager).now parts
             → IsPage parts (query_of self.entry.pager).now found.page) }
-        ensures decided { IfOk result (λ found. found.decided ≡ self.entry.decided) }
+        ensures cached { IfOk result (λ found. found.cached ≡ self.entry.cached) }
     {
         let page = self.pager.end()?;
         Ok(Found {
             page,
-            decided: self.decided,
+            cached: self.cached,
         })
     }
 }
@@ -188,17 +194,17 @@ impl<'a> Visitor for SearchVisitor<'a> {
     ghost takes = { TakesResource };
 
     fn take(&mut self, alloc: Global, resource: &Resource) -> Result<(), NoMemory> {
-        if let Some(decisions) = self.builder.on_all(resource) {
+        if let Some(patterns) = self.builder.on_all(resource) {
             self.builder
-                .show(alloc, decisions, resource, &mut self.pager)?;
+                .show(alloc, patterns, resource, &mut self.pager)?;
             return Ok(());
         }
-        let decisions = self.builder.decide(alloc, resource)?;
+        let patterns = self.builder.on(alloc, resource)?;
         if self
             .builder
-            .show(alloc, &decisions, resource, &mut self.pager)?
+            .show(alloc, &patterns, resource, &mut self.pager)?
         {
-            self.decided.keep(resource.id(), decisions)?;
+            self.cached.keep(resource.id(), patterns)?;
         }
         Ok(())
     }

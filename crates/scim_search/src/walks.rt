@@ -10,12 +10,12 @@ ghost use Rattle.scim_query.specs.NamedAttributes.{attributes_of, names_groups};
 ghost use Rattle.scim_query.specs.Pages.{IsPage};
 ghost use Rattle.scim_shelf.specs.Shelves.{Answers, IsReadFrom, OnlyReads};
 ghost use Rattle.scim_shelf.specs.Stores.{IsStore};
-ghost use Rattle.scim_search.specs.Decided.{Recalls};
-ghost use Rattle.scim_search.specs.ReadDecisions.{AreDecisions};
+ghost use Rattle.scim_search.specs.PatternCache.{Recalls};
+ghost use Rattle.scim_search.specs.ReadPatterns.{ArePatterns};
 ghost use Rattle.scim_search.specs.ViewBuilders as sights;
 ghost use Rattle.scim_search.specs.Walks as spec;
 
-use crate::read_decisions::ReadDecisions;
+use crate::read_patterns::ReadPatterns;
 use crate::view_builders::{ViewBuilder, ViewScope};
 use crate::visitors::{Found, GroupVisitor, SearchVisitor};
 use crate::whole_items::{ItemBuilder, whole_items};
@@ -59,20 +59,20 @@ fn groups_for<S: Shelf>(
     }
 }
 
-/// Returns the page of the query over the parts that the builder builds, and the cached decisions. The
+/// Returns the page of the query over the parts that the builder builds, and the cached patterns. The
 /// builder builds one part for each resource of the kind that its viewer sees.
-fn page_made<S: Shelf>(
+fn page_made<'a, S: Shelf>(
     alloc: Global,
-    builder: ViewBuilder<'_>,
+    builder: ViewBuilder<'a>,
     shelf: &mut S,
     kind: Kind,
-    query: &Query,
-) -> Result<Found, Failed<ShelfFault>>
+    query: &'a Query,
+) -> Result<Found<'a>, Failed<ShelfFault>>
     ensures page { IfOk result (Answers S.stands S.is_honest shelf.old shelf.new
         (λ store found. (groups : List Content) (base : List ℕ)
         → sights.IsViewBuilder groups builder.entry → IsStore base store
         → IsPage (spec.made_of_kind groups builder.entry kind store.resources) query.now found.page
-        × Recalls (viewer_of builder.entry.viewer.now) kind store.resources found.decided)) }
+        × Recalls (viewer_of builder.entry.viewer.now) kind store.resources found.cached)) }
     ensures read { OnlyReads S.stands S.is_honest S.failures shelf.old shelf.new result }
 {
     let mut search = SearchVisitor::new(alloc, builder, query);
@@ -85,19 +85,19 @@ fn page_made<S: Shelf>(
 fn page_by_groups<S: Shelf>(
     alloc: Global,
     viewer: &Viewer<'_>,
-    decisions: &ReadDecisions<'_>,
+    patterns: &ReadPatterns<'_>,
     shelf: &mut S,
     kind: Kind,
     query: &Query,
 ) -> Result<Page, Failed<ShelfFault>>
-    requires { AreDecisions (viewer_of viewer.now) decisions.now }
+    requires { ArePatterns (viewer_of viewer.now) patterns.now }
     ensures page { IsReadFrom S.stands S.is_honest shelf.old shelf.new result (λ store page.
         IsPage (views (viewer_of viewer.now) (of_kind Kind.Group store.resources)
         (of_kind kind store.resources)) query.now page) }
     ensures read { OnlyReads S.stands S.is_honest S.failures shelf.old shelf.new result }
 {
     let index = groups_for(alloc, viewer, shelf, kind)?;
-    let builder = ViewBuilder::new(viewer, decisions, ViewScope::Whole(&index));
+    let builder = ViewBuilder::new(viewer, patterns, ViewScope::Whole(&index));
     Ok(page_made(alloc, builder, shelf, kind, query)?.page)
 }
 
@@ -106,13 +106,13 @@ fn page_by_groups<S: Shelf>(
 fn page_by_named<S: Shelf>(
     alloc: Global,
     viewer: &Viewer<'_>,
-    decisions: &ReadDecisions<'_>,
+    patterns: &ReadPatterns<'_>,
     shelf: &mut S,
     kind: Kind,
     attributes: &[Attribute],
     query: &Query,
 ) -> Result<Page, Failed<ShelfFault>>
-    requires decisions { AreDecisions (viewer_of viewer.now) decisions.now }
+    requires patterns { ArePatterns (viewer_of viewer.now) patterns.now }
     requires named { attributes.now ≡ attributes_of query.now }
     requires no_groups { names_groups query.now ≡ false }
     ensures page { IsReadFrom S.stands S.is_honest shelf.old shelf.new result (λ store page.
@@ -120,12 +120,12 @@ fn page_by_named<S: Shelf>(
         (of_kind kind store.resources)) query.now page) }
     ensures read { OnlyReads S.stands S.is_honest S.failures shelf.old shelf.new result }
 {
-    let builder = ViewBuilder::new(viewer, decisions, ViewScope::Named(attributes));
+    let builder = ViewBuilder::new(viewer, patterns, ViewScope::Named(attributes));
     let found = page_made(alloc, builder, shelf, kind, query)?;
     if found.page.items.as_slice().is_empty() {
         return Ok(found.page);
     }
-    let builder = ItemBuilder::new(viewer, kind, decisions, &found.decided);
+    let builder = ItemBuilder::new(viewer, kind, patterns, &found.cached);
     let items = whole_items(alloc, builder, shelf, found.page.items.as_slice())?;
     Ok(Page {
         total: found.page.total,
@@ -148,14 +148,14 @@ pub(crate) fn page_of_all<S: Shelf>(
         (of_kind kind store.resources)) query.now page) }
     ensures read { OnlyReads S.stands S.is_honest S.failures shelf.old shelf.new result }
 {
-    let decisions = ReadDecisions::of(alloc, viewer, kind)?;
-    if !decisions.may_find(query) {
+    let patterns = ReadPatterns::of(alloc, viewer, kind)?;
+    if !patterns.may_find(query) {
         return Ok(Pager::new(alloc, query).end()?);
     }
     let attributes = query.attributes(alloc)?;
     if attributes.contains(&Attribute::Groups) {
-        return page_by_groups(alloc, viewer, &decisions, shelf, kind, query);
+        return page_by_groups(alloc, viewer, &patterns, shelf, kind, query);
     }
     let attributes = attributes.as_slice();
-    page_by_named(alloc, viewer, &decisions, shelf, kind, attributes, query)
+    page_by_named(alloc, viewer, &patterns, shelf, kind, attributes, query)
 }

@@ -10,9 +10,9 @@ ghost use Rattle.scim_shelf.specs.Stores.{IsStore, is_at};
 ghost use Rattle.scim_search.specs.Visits.{Tells};
 ghost use Rattle.scim_search.specs.Walks as spec;
 
-use crate::decision_cache::Decided;
 use crate::groups_of_resource::view_beside;
-use crate::read_decisions::ReadDecisions;
+use crate::pattern_cache::PatternCache;
+use crate::read_patterns::ReadPatterns;
 use crate::visitors::ListingVisitor;
 use scim_schema::Kind;
 use scim_shelf::{Shelf, ShelfFault};
@@ -22,35 +22,35 @@ use scim_view::Viewer;
 use std::alloc::Global;
 
 /// A builder of the items of a page, which are parts of resources of one kind. It has the viewer, the
-/// decisions on the kind, and the cached decisions on some resources.
+/// patterns on the kind, and the cached patterns on some resources.
 #[derive(Clone, Copy)]
 pub(crate) struct ItemBuilder<'a> {
     viewer: &'a Viewer<'a>,
     kind: Kind,
-    decisions: &'a ReadDecisions<'a>,
-    decided: &'a Decided,
+    patterns: &'a ReadPatterns<'a>,
+    cached: &'a PatternCache<'a>,
 }
 
 impl<'a> ItemBuilder<'a> {
-    /// Returns a builder for this viewer, kind and decisions.
+    /// Returns a builder for this viewer, kind and patterns.
     pub(crate) fn new(
         viewer: &'a Viewer<'a>,
         kind: Kind,
-        decisions: &'a ReadDecisions<'a>,
-        decided: &'a Decided,
+        patterns: &'a ReadPatterns<'a>,
+        cached: &'a PatternCache<'a>,
     ) -> ItemBuilder<'a>
         ensures { result ≡ record {
           viewer = viewer.entry;
           kind = kind;
-          decisions = decisions.entry;
-          decided = decided.entry;
+          patterns = patterns.entry;
+          cached = cached.entry;
         } }
     {
         ItemBuilder {
             viewer,
             kind,
-            decisions,
-            decided,
+            patterns,
+            cached,
         }
     }
 
@@ -72,11 +72,11 @@ impl<'a> ItemBuilder<'a> {
             (of_kind Kind.Group store.resources) resource.now)) }
         ensures read { OnlyReads S.stands S.is_honest S.failures shelf.old shelf.new result }
     {
-        match self.decisions.known(self.decided, resource) {
-            Some(decisions) => view_beside(alloc, self.viewer, decisions, listing, shelf, resource),
+        match self.patterns.known(self.cached, resource) {
+            Some(patterns) => view_beside(alloc, self.viewer, patterns, listing, shelf, resource),
             None => {
-                let decisions = self.decisions.on(alloc, self.viewer, resource)?;
-                view_beside(alloc, self.viewer, &decisions, listing, shelf, resource)
+                let patterns = self.patterns.on(alloc, self.viewer, resource)?;
+                view_beside(alloc, self.viewer, &patterns, listing, shelf, resource)
             }
         }
     }
@@ -153,7 +153,7 @@ fn push_parts<S: Shelf>(
 }
 
 /// Returns, for each id of `items` in order, the client's view of the resource with this id, with computed
-/// `groups`. Decisions on resources or groups that are still cached ([`Decided`]) aren't evaluated again.
+/// `groups`. Patterns on resources or groups that are still cached ([`PatternCache`]) aren't computed again.
 pub(crate) fn whole_items<S: Shelf>(
     alloc: Global,
     builder: ItemBuilder<'_>,
@@ -166,7 +166,10 @@ pub(crate) fn whole_items<S: Shelf>(
         items.now whole.items) }
     ensures read { OnlyReads S.stands S.is_honest S.failures shelf.old shelf.new result }
 {
-    let mut listing = ListingVisitor::new(alloc, builder.viewer)?;
+    let [first, ..] = items else {
+        return Ok(Vec::new(alloc));
+    };
+    let mut listing = ListingVisitor::new(alloc, builder.viewer, first.id())?;
     let mut parts = Vec::with_capacity(alloc, items.len())?;
     push_parts(alloc, builder, &mut listing, shelf, items, &mut parts)?;
     Ok(parts)

@@ -20,5 +20,5 @@ returns-clause-part g c =
     IfOk-weaker c.view_beside.result _ _
     (λ part answer store stands honest base is.
     of_own_kind c.args.kind (viewer_of c.args.viewer.now) (of_kind Group store.resources) c.args.resource.now part
-    (ap (λ (k : Kind). sameb the_kind k c.args.kind) (sym c.kind.ensures) ∙ not_false _ (sym c.ne.ensures ∙ c.if-ne.false)) (answer store stands honest base is c.in_ok-decisions.ensures (c.in_ok-listing.ensures store.resources)).1)
+    (ap (λ (k : Kind). sameb the_kind k c.args.kind) (sym c.kind.ensures) ∙ not_false _ (sym c.ne.ensures ∙ c.if-ne.false)) (answer store stands honest base is c.in_ok-patterns.ensures (c.in_ok-listing.ensures store.resources)).1)
     c.view_beside.ensures.part

@@ -21,7 +21,7 @@ returns-clause-page g c store stands honest base is =
     let page = c.in_ok-page_made.field-0.page in
     let told = c.in_ok-index.ensures.index store stands (c.in_ok-page_made.ensures.read.honest honest) in
     let builder = c.new-builder.ensures in
-    let known : IsViewBuilder told.groups c.new-builder.result = subst (IsViewBuilder told.groups) (sym builder) (record { decisions = c.requires; index = told.is_index }) in
+    let known : IsViewBuilder told.groups c.new-builder.result = subst (IsViewBuilder told.groups) (sym builder) (record { patterns = c.requires; index = told.is_index }) in
     let whole = subst (λ (s : ViewBuilder). IsPage (made_of_kind told.groups s c.args.kind store.resources) c.args.query.now page) builder
     (c.in_ok-page_made.ensures.page store (c.in_ok-index.ensures.read.store store stands) honest told.groups base known is).0 in
     let own : All (λ d. is_of c.args.kind d ≡ true) cs = filter_passes (is_of c.args.kind) store.resources in

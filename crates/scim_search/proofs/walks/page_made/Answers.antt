@@ -11,7 +11,7 @@ use Rattle.scim_search.specs.declared.view_builders.ViewBuilder.{ViewBuilder}
 use Rattle.scim_search.specs.ViewBuilders.{made, IsViewBuilder}
 use Rattle.scim_search.specs.Walks.{made_of_kind}
 use Rattle.scim_search.proofs.StoreViews.{made_id, made_ascends, strict_sorted}
-use Rattle.scim_search.specs.Decided.{Recalls}
+use Rattle.scim_search.specs.PatternCache.{Recalls}
 use Rattle.scim_search.proofs.VisitLemmas.{took_resources}
 use Rattle.scim_search.proofs.WalkLemmas.{kind_found}
 use Rattle.scim_search.proofs.walks.page_made.Goals as goal
@@ -32,7 +32,7 @@ returns-clause-page g c store stands honest groups base is valid =
     (walk.taken groups [] (subst (IsViewBuilder groups) (sym fresh.builder) is) fresh.taken) in
     let ascend = strict_sorted parts (made_ascends make viewer (made_id viewer groups builder.scope) (of_kind kind store.resources)
     (IsStrictlySortedBy-filter id_cmp (is_of kind) store.resources valid.keyed.ascending)) in
-    let kept = walk.decided groups store.resources kind (subst (IsViewBuilder groups) (sym fresh.builder) is) (kind_found base store valid kind) (fresh.decided (viewer_of first.builder.viewer.now) kind store.resources) in (
+    let kept = walk.cached groups store.resources kind (subst (IsViewBuilder groups) (sym fresh.builder) is) (kind_found base store valid kind) (fresh.cached (viewer_of first.builder.viewer.now) kind store.resources) in (
       subst (λ (q : Bor Query). IsPage parts q.now c.in_ok-end.field-0.page) (walk.query ∙ fresh.query) (c.in_ok-end.ensures.page parts taken (λ e. ascend)),
-      subst (Recalls viewer kind store.resources) (sym c.in_ok-end.ensures.decided) (subst (λ (s : ViewBuilder). Recalls (viewer_of s.viewer.now) kind store.resources last.decided) fresh.builder kept),
+      subst (Recalls viewer kind store.resources) (sym c.in_ok-end.ensures.cached) (subst (λ (s : ViewBuilder). Recalls (viewer_of s.viewer.now) kind store.resources last.cached) fresh.builder kept),
     )

@@ -20,4 +20,4 @@ returns-then-not-may_find-clause-page g c store stands honest base is =
     = subst (λ (q : Bor Query). IsPage [] q.now page) c.new.ensures.query (c.in_ok-end.ensures [] c.new.ensures.taken (λ e. one_in_order [] (omega arith))) in
     page_of_matching [] (views viewer (of_kind Group store.resources) (of_kind kind store.resources)) query page
     (none_matches viewer kind (of_kind Group store.resources) query.filter base store is
-    (λ d part own seen. c.may_find.ensures c.if-not-may_find.true viewer (of_kind Group store.resources) d c.in_ok-decisions.ensures.decisions part (own ∙ sym c.in_ok-decisions.ensures.kind) seen)) none
+    (λ d part own seen. c.may_find.ensures c.if-not-may_find.true viewer (of_kind Group store.resources) d c.in_ok-patterns.ensures.patterns part (own ∙ sym c.in_ok-patterns.ensures.kind) seen)) none

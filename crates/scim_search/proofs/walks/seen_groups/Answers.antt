@@ -6,7 +6,7 @@ use Rattle.scim_view.specs.declared.viewers.Viewer.{Viewer as ViewerInCode}
 use Rattle.scim_view.specs.declared.group_index.GroupIndex.{GroupIndex}
 use Rattle.scim_view.specs.View.{viewer_of}
 use Rattle.scim_view.specs.Indexes.{IsIndexOf}
-use Rattle.scim_search.specs.ReadDecisions.{AreDecisions}
+use Rattle.scim_search.specs.ReadPatterns.{ArePatterns}
 use Rattle.scim_search.proofs.VisitLemmas.{took_groups}
 use Rattle.scim_search.proofs.walks.seen_groups.Goals as goal
 
@@ -16,8 +16,8 @@ returns-clause-index g c store stands honest =
     let first = c.in_ok-groups.groups in
     let last = c.each.new.visitor in
     let walk = took_groups first gs last (c.in_ok-each.ensures.answer store stands honest) in
-    let are : AreDecisions (viewer_of first.viewer.now) first.decisions
-    = subst (λ (u : Bor ViewerInCode). AreDecisions (viewer_of u.now) first.decisions) (sym c.in_ok-groups.ensures.viewer) c.in_ok-groups.ensures.decisions in
+    let are : ArePatterns (viewer_of first.viewer.now) first.patterns
+    = subst (λ (u : Bor ViewerInCode). ArePatterns (viewer_of u.now) first.patterns) (sym c.in_ok-groups.ensures.viewer) c.in_ok-groups.ensures.patterns in
     let none : IsIndexOf (viewer_of first.viewer.now) [] first.index = c.in_ok-groups.ensures.index (viewer_of first.viewer.now) in
     subst (λ (i : GroupIndex). IsIndexOf (viewer_of c.args.viewer.now) gs i) (sym c.end.ensures)
     (subst (λ (u : Bor ViewerInCode). IsIndexOf (viewer_of u.now) gs last.index) c.in_ok-groups.ensures.viewer (walk [] are none))

@@ -8,7 +8,7 @@ returns-in-Some c =
     ok_by c.push.result _ _
     (λ index. record {
       viewer = refl;
-      decisions = refl;
+      patterns = refl;
       index = λ groups are is. index (viewer_of c.args.self.now.viewer.now) groups (c.in-Some.ensures (viewer_of c.args.self.now.viewer.now) are) is;
     })
     c.push.ensures

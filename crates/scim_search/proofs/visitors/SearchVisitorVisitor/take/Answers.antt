@@ -8,24 +8,24 @@ returns-in-Some c = record {
   builder = refl;
   query = c.in_ok-show.ensures.query;
   taken = λ groups parts is was. c.in_ok-show.ensures.taken groups parts is (c.in-Some.ensures groups is) was;
-  decided = λ groups cs kind is found recalls. recalls;
+  cached = λ groups cs kind is found recalls. recalls;
 }
 
 pub returns-in_ok-keep : goal.returns-in_ok-keep
 returns-in_ok-keep c = record {
   builder = refl;
   query = c.in_ok-show-2.ensures.query;
-  taken = λ groups parts is was. c.in_ok-show-2.ensures.taken groups parts is (c.in_ok-decisions.ensures groups is) was;
-  decided = λ groups cs kind is found recalls.
+  taken = λ groups parts is was. c.in_ok-show-2.ensures.taken groups parts is (c.in_ok-patterns.ensures groups is) was;
+  cached = λ groups cs kind is found recalls.
       let viewer = viewer_of c.args.self.now.builder.viewer.now in
       c.in_ok-keep.ensures.recalls viewer kind cs
-      (on_found viewer kind cs c.id.result c.args.resource.now c.in_ok-decisions.decisions c.id.ensures found (c.in_ok-decisions.ensures groups is)) recalls;
+      (on_found viewer kind cs c.id.result c.args.resource.now c.in_ok-patterns.patterns c.id.ensures found (c.in_ok-patterns.ensures groups is)) recalls;
 }
 
 pub returns-else-branch : goal.returns-else-branch
 returns-else-branch c = record {
   builder = refl;
   query = c.in_ok-show-2.ensures.query;
-  taken = λ groups parts is was. c.in_ok-show-2.ensures.taken groups parts is (c.in_ok-decisions.ensures groups is) was;
-  decided = λ groups cs kind is found recalls. recalls;
+  taken = λ groups parts is was. c.in_ok-show-2.ensures.taken groups parts is (c.in_ok-patterns.ensures groups is) was;
+  cached = λ groups cs kind is found recalls. recalls;
 }

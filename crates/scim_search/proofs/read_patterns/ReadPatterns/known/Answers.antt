@@ -2,7 +2,7 @@ use Rattle.std.proofs.Common.{◌≡◌, sym, subst, ℕ, List}
 use Rattle.std.specs.Prelude.{Some, find}
 use Rattle.std.proofs.lemmas.Option.{IfSome_then}
 use Rattle.scim_shelf.specs.Stores.{is_at}
-use Rattle.scim_search.proofs.read_decisions.ReadDecisions.known.Goals as goal
+use Rattle.scim_search.proofs.read_patterns.ReadPatterns.known.Goals as goal
 
 pub returns-in-None : goal.returns-in-None
 returns-in-None c v kind cs are recalls found =
