@@ -4,15 +4,20 @@ use Rattle.std.specs.Prelude.{None, Some}
 use Rattle.serde_json.specs.Written.{compact_text}
 use Rattle.scim_schema.specs.declared.Kind.TheVariants.{Group}
 use Rattle.scim_schema.specs.declared.Attribute.TheVariants.{Id}
+use Rattle.scim_schema.specs.declared.Leaf.{Leaf}
 use Rattle.scim_schema.specs.Units.{simple}
 use Rattle.scim_cell.specs.Content.{Content}
 use Rattle.scim_cell.specs.Kinds.{of_kind}
 use Rattle.scim_audit.specs.declared.audit_rows.AuditRow.{AuditRow}
 use Rattle.scim_audit.specs.declared.audit_rows.Decided.TheVariants as decided
 use Rattle.scim_json.specs.PartData.{part_data}
+use Rattle.scim_policy.specs.declared.patterns.Patterns.{Patterns}
 use Rattle.scim_policy.specs.declared.rules.Decision.{Decision}
+use Rattle.scim_policy.specs.Decide.{decide}
+use Rattle.scim_policy.specs.Patterns.{PatternRule, decisions_of, whole_decision}
+use Rattle.scim_policy.specs.PatternTable.{rules_in}
 use Rattle.scim_view.specs.declared.projection.Wanted.{Wanted}
-use Rattle.scim_view.specs.View.{Viewer, read_decision}
+use Rattle.scim_view.specs.View.{Viewer, read_decision, read_rules}
 use Rattle.scim_view.specs.Groups.{with_groups}
 use Rattle.scim_view.specs.Shown.{shown}
 use Rattle.scim_query.specs.declared.queries.Query.{Query}
@@ -20,6 +25,16 @@ use Rattle.scim_shelf.specs.declared.changes.Change.TheVariants.{Nothing}
 use Rattle.scim_service.specs.declared.requests.Turn.{Turn}
 use Rattle.scim_service.specs.declared.replies.Reply.TheVariants.{Shown}
 use Rattle.scim_service.specs.Step.{row_of, allowed_row, resource_text, get_plan, list_text, view_of_kind, search_plan, plan_for_seen}
+
+-- patterns for reading a resource decide on a leaf in all its values as the policy does
+pub whole_read : (ps : Patterns) (v : Viewer) (c : Content) (l : Leaf) → rules_in ps l ≡ read_rules v c l → whole_decision (decisions_of (rules_in ps l)) ≡ read_decision v c l
+unfolding decide
+whole_read ps v c l same = ap (λ (rs : List PatternRule). whole_decision (decisions_of rs)) same
+
+-- so they do on the leaf `id`
+pub id_read : (ps : Patterns) (v : Viewer) (c : Content) (l : Leaf) (d : Decision)
+    → d ≡ whole_decision (decisions_of (rules_in ps l)) → l ≡ simple Id → ((m : Leaf) → rules_in ps m ≡ read_rules v c m) → d ≡ read_decision v c (simple Id)
+id_read ps v c l d decides own same = decides ∙ ap (λ (m : Leaf). whole_decision (decisions_of (rules_in ps m))) own ∙ whole_read ps v c (simple Id) (same (simple Id))
 
 -- a resource that is seen the same with two lists of groups is told the same
 pub text_with : (v : Viewer) (gs hs : List Content) (wanted : Wanted) (c : Content) → with_groups v gs c ≡ with_groups v hs c → resource_text v gs wanted c ≡ resource_text v hs wanted c

@@ -111,9 +111,9 @@ module _ (v : Viewer) (turn : Turn) (cs : List Content) (d : Draft) (wanted : Wa
 pub absent_is : (v : Viewer) (turn : Turn) (cs : List Content) (next : Content → Plan) → None ≡ sought_resource turn cs → absence_plan turn ≡ plan_for_seen v turn next (sought_resource turn cs)
 absent_is v turn cs next none = rw (← none) refl
 
-pub hidden_is : (v : Viewer) (turn : Turn) (cs : List Content) (next : Content → Plan) (c : Content) (d : Decision)
-    → d ≡ read_decision v c (simple Id) → d.allow ≡ false → Some c ≡ sought_resource turn cs → hidden_plan turn d ≡ plan_for_seen v turn next (sought_resource turn cs)
-hidden_is v turn cs next c d decides denies found =
+pub hidden_is : (v : Viewer) (turn : Turn) (next : Content → Plan) (c : Content) (o : Option Content) (d : Decision)
+    → d ≡ read_decision v c (simple Id) → d.allow ≡ false → Some c ≡ o → hidden_plan turn d ≡ plan_for_seen v turn next o
+hidden_is v turn next c o d decides denies found =
     let unseen : (read_decision v c (simple Id)).allow ≡ false = ap (λ (e : Decision). e.allow) (sym decides) ∙ denies in
     rw (← found) (ap (hidden_plan turn) decides ∙ otherwise (read_decision v c (simple Id)).allow (next c) (hidden_plan turn (read_decision v c (simple Id))) unseen)
   where

@@ -2,7 +2,7 @@
 ghost use Rattle.std.specs.Prelude.{◌≡◌, IfOk};
 ghost use Rattle.scim_schema.specs.declared.Attribute.{Attribute};
 ghost use Rattle.scim_schema.specs.Units.{simple};
-ghost use Rattle.scim_policy.specs.Table.{access_in};
+ghost use Rattle.scim_policy.specs.PatternTable.{access_in};
 ghost use Rattle.scim_view.specs.View.{viewer_of};
 ghost use Rattle.scim_shelf.specs.Shelves.{IsReadFrom, OnlyReads};
 ghost use Rattle.scim_shelf.specs.Stores.{AreOf};
@@ -68,8 +68,8 @@ fn refusal_to_change<S: Shelf>(
     viewer: &Viewer<'_>,
     shelf: &mut S,
     turn: &Turn,
-    before: &Rights,
-    after: &Rights,
+    before: &Rights<'_>,
+    after: &Rights<'_>,
     resource: &Resource,
 ) -> Result<Option<Plan>, Failed<ShelfFault>>
     requires { access_in after.now ≡ spec.access_to (viewer_of viewer.now) resource.now }
@@ -82,7 +82,7 @@ fn refusal_to_change<S: Shelf>(
         let plan = refused(alloc, turn, Refusal::Taken)?;
         return Ok(Some(plan));
     }
-    match before.widening(resource.kind(), after) {
+    match before.widening(alloc, resource.kind(), after)? {
         Some((_, leaf, decision)) => {
             let plan = denied(alloc, turn, decision, leaf, Refusal::Widens)?;
             Ok(Some(plan))
@@ -100,7 +100,7 @@ pub(crate) fn plan_changed<S: Shelf>(
     shelf: &mut S,
     turn: &Turn,
     wanted: &Wanted,
-    rights: &Rights,
+    rights: &Rights<'_>,
     changed: Changed,
 ) -> Result<Plan, Failed<ShelfFault>>
     ensures plan { IsReadFrom S.stands S.is_honest shelf.old shelf.new result (λ store plan.
@@ -132,6 +132,6 @@ pub(crate) fn plan_changed<S: Shelf>(
         &changed.resource,
         wanted,
     )?;
-    let rule = rights.read().of(Leaf::simple(Attribute::Id)).rule;
+    let rule = rights.read().whole(Leaf::simple(Attribute::Id)).rule;
     Ok(changed_with(alloc, turn, rule, changed, text)?)
 }

@@ -155,8 +155,8 @@ fn plan_if_free<S: Shelf>(
     if let Some(plan) = refusal {
         return Ok(plan);
     }
-    let decisions = viewer.decisions(alloc, &resource)?;
-    let text = kept_text(alloc, viewer, shelf, &decisions, &resource, wanted)?;
+    let patterns = viewer.patterns(alloc, &resource)?;
+    let text = kept_text(alloc, viewer, shelf, &patterns, &resource, wanted)?;
     Ok(made(alloc, viewer, turn, resource, rule, text)?)
 }
 

@@ -2,11 +2,12 @@
 ghost use Rattle.std.specs.Prelude.{◌≡◌, None};
 ghost use Rattle.scim_patch_steps.specs.Patch.{touched};
 ghost use Rattle.scim_patch_steps.specs.Kept.{patch_of};
-ghost use Rattle.scim_policy.specs.Table.{access_in};
+ghost use Rattle.scim_policy.specs.PatternTable.{access_in};
 ghost use Rattle.scim_view.specs.View.{viewer_of};
 ghost use Rattle.scim_shelf.specs.Shelves.{IsReadFrom, OnlyReads};
 ghost use Rattle.scim_shelf.specs.Stores.{AreOf};
 ghost use Rattle.scim_service.specs.Step as spec;
+ghost use Rattle.scim_service.specs.code.Reached.{AreRightsOn};
 
 use crate::changed_resources::plan_changed;
 use crate::plans::{Plan, denied, refused};
@@ -35,7 +36,7 @@ fn step_refusal(fault: StepFault) -> Refusal
 
 /// Finds the first unit in the patch that the client may not write. Returns the denied leaf of this unit and
 /// the decision on the leaf; `None` if the client may write all units in the patch.
-fn first_forbidden(rights: &Rights, patch: &Patch) -> Option<(Leaf, Decision)>
+fn first_forbidden(rights: &Rights<'_>, patch: &Patch) -> Option<(Leaf, Decision)>
     ensures { result ≡ spec.first_forbidden patch.now.kind (access_in rights.now)
         (touched (patch_of patch.now)) }
 {
@@ -61,10 +62,10 @@ fn plan_allowed<S: Shelf>(
     turn: &Turn,
     patch: &Patch,
     wanted: &Wanted,
-    rights: &Rights,
+    rights: &Rights<'_>,
     resource: Resource,
 ) -> Result<Plan, Failed<ShelfFault>>
-    requires rights { access_in rights.now ≡ spec.access_to (viewer_of viewer.now) resource }
+    requires rights { AreRightsOn (viewer_of viewer.now) resource rights.now }
     requires kind { patch.now.kind ≡ resource.kind }
     ensures plan { IsReadFrom S.stands S.is_honest shelf.old shelf.new result (λ store plan.
         AreOf resource.kind resource.id store.resources
@@ -89,10 +90,10 @@ fn plan_seen<S: Shelf>(
     turn: &Turn,
     patch: &Patch,
     wanted: &Wanted,
-    rights: &Rights,
+    rights: &Rights<'_>,
     resource: Resource,
 ) -> Result<Plan, Failed<ShelfFault>>
-    requires { access_in rights.now ≡ spec.access_to (viewer_of viewer.now) resource }
+    requires { AreRightsOn (viewer_of viewer.now) resource rights.now }
     ensures plan { IsReadFrom S.stands S.is_honest shelf.old shelf.new result (λ store plan.
         AreOf resource.kind resource.id store.resources
         → plan ≡ spec.patch_plan (viewer_of viewer.now) turn.now store.resources

@@ -4,7 +4,7 @@ ghost use Rattle.scim_schema.specs.declared.Kind.{Kind};
 ghost use Rattle.scim_schema.specs.declared.Leaf.{Leaf};
 ghost use Rattle.scim_cell.specs.Content.{Content};
 ghost use Rattle.scim_cell.specs.Kinds.{of_kind};
-ghost use Rattle.scim_policy.specs.Table.{decision};
+ghost use Rattle.scim_policy.specs.PatternTable.{rules_in};
 ghost use Rattle.scim_view.specs.View as view;
 ghost use Rattle.scim_view.specs.View.{viewer_of};
 ghost use Rattle.scim_view.specs.Listings.{AreListing};
@@ -21,14 +21,14 @@ use crate::requests::{Ask, Turn, named_id};
 use scim_audit::{AuditRow, Decided, Refusal};
 use scim_cell::{Id, Text};
 use scim_json::{to_json, to_list_json};
-use scim_policy::{Decision, Decisions};
+use scim_policy::{Decision, Patterns};
 use scim_query::{Page, Query, shown_page};
 use scim_schema::{Attribute, Leaf, Op};
 use scim_search::{groups_beside, page_of_query};
 use scim_shelf::{Change, Shelf, ShelfFault};
 use scim_text::{Failed, NoMemory};
 use scim_value::Resource;
-use scim_view::{ListingGroups, Viewer, Wanted, project};
+use scim_view::{ListingGroups, Viewer, Wanted, project, shows_id};
 use std::alloc::Global;
 
 /// The reply to a request, the change to the store and the audit row.
@@ -200,72 +200,71 @@ pub(crate) fn found<S: Shelf>(
     }
 }
 
-/// Returns the JSON of a resource as the client sees it, projected to the wanted attributes. `decisions` are
-/// the policy's decisions on reading the resource, and `groups` are the groups to list in the resource.
+/// Returns the JSON of a resource as the client sees it, projected to the wanted attributes. `patterns` are
+/// those for reading the resource, and `groups` are the groups to list in the resource.
 #[tactic(auto, unfolding(crate::specs::Step::resource_text))]
 pub(crate) fn resource_text(
     alloc: Global,
     viewer: &Viewer<'_>,
-    decisions: &Decisions,
+    patterns: &Patterns<'_>,
     groups: &ListingGroups,
     resource: &Resource,
     wanted: &Wanted,
 ) -> Result<Text, NoMemory>
-    requires { (l : Leaf) → decision decisions.now l
-        ≡ view.read_decision (viewer_of viewer.now) resource.now l }
+    requires { (l : Leaf) → rules_in patterns.now l
+        ≡ view.read_rules (viewer_of viewer.now) resource.now l }
     ensures { IfOk result (λ text. (gathered : List Content)
         → AreListing (viewer_of viewer.now) resource.now.id gathered groups.now
         → text ≡ spec.resource_text (viewer_of viewer.now) gathered wanted.now resource.now) }
 {
-    let visible = viewer.with_groups_by(alloc, decisions, groups, resource)?;
+    let visible = viewer.with_groups_by(alloc, patterns, groups, resource)?;
     let shown = project(alloc, visible, wanted)?;
     Ok(Text::new(to_json(alloc, &shown)?))
 }
 
 /// Returns the JSON of a resource as the client sees it, projected to the wanted attributes. Reads the
-/// resource's groups from the shelf. `decisions` are the policy's decisions on reading the resource.
+/// resource's groups from the shelf. `patterns` are those for reading the resource.
 fn seen_text<S: Shelf>(
     alloc: Global,
     viewer: &Viewer<'_>,
     shelf: &mut S,
-    decisions: &Decisions,
+    patterns: &Patterns<'_>,
     resource: &Resource,
     wanted: &Wanted,
 ) -> Result<Text, Failed<ShelfFault>>
-    requires { (l : Leaf) → decision decisions.now l
-        ≡ view.read_decision (viewer_of viewer.now) resource.now l }
+    requires { (l : Leaf) → rules_in patterns.now l
+        ≡ view.read_rules (viewer_of viewer.now) resource.now l }
     ensures text { IsReadFrom S.stands S.is_honest shelf.old shelf.new result (λ store text. text
         ≡ spec.resource_text (viewer_of viewer.now)
         (of_kind Kind.Group store.resources) wanted.now resource.now) }
     ensures read { OnlyReads S.stands S.is_honest S.failures shelf.old shelf.new result }
 {
     let groups = groups_beside(alloc, viewer, shelf, resource)?;
-    Ok(resource_text(alloc, viewer, decisions, &groups, resource, wanted)?)
+    Ok(resource_text(alloc, viewer, patterns, &groups, resource, wanted)?)
 }
 
 /// Returns the JSON of a resource that the request stores, as the client sees the resource, projected to the
-/// wanted attributes; `None` if the client doesn't see the resource. `decisions` are the policy's decisions
-/// on reading the resource.
+/// wanted attributes; `None` if the client doesn't see the resource. `patterns` are those for reading the
+/// resource.
 pub(crate) fn kept_text<S: Shelf>(
     alloc: Global,
     viewer: &Viewer<'_>,
     shelf: &mut S,
-    decisions: &Decisions,
+    patterns: &Patterns<'_>,
     resource: &Resource,
     wanted: &Wanted,
 ) -> Result<Option<Text>, Failed<ShelfFault>>
-    requires { (l : Leaf) → decision decisions.now l
-        ≡ view.read_decision (viewer_of viewer.now) resource.now l }
+    requires { (l : Leaf) → rules_in patterns.now l
+        ≡ view.read_rules (viewer_of viewer.now) resource.now l }
     ensures text { IsReadFrom S.stands S.is_honest shelf.old shelf.new result (λ store text.
         AreOf resource.now.kind resource.now.id store.resources
         → text ≡ spec.kept_text (viewer_of viewer.now) store.resources wanted.now resource.now) }
     ensures read { OnlyReads S.stands S.is_honest S.failures shelf.old shelf.new result }
 {
-    let seen = decisions.of(Leaf::simple(Attribute::Id));
-    if !seen.allow {
+    if !shows_id(patterns) {
         return Ok(None);
     }
-    let text = seen_text(alloc, viewer, shelf, decisions, resource, wanted)?;
+    let text = seen_text(alloc, viewer, shelf, patterns, resource, wanted)?;
     Ok(Some(text))
 }
 
@@ -285,12 +284,12 @@ fn plan_show<S: Shelf>(
         (Some resource.now)) }
     ensures read { OnlyReads S.stands S.is_honest S.failures shelf.old shelf.new result }
 {
-    let decisions = viewer.decisions(alloc, resource)?;
-    let seen = decisions.of(Leaf::simple(Attribute::Id));
+    let patterns = viewer.patterns(alloc, resource)?;
+    let seen = patterns.whole(Leaf::simple(Attribute::Id));
     if !seen.allow {
         return Ok(hidden(alloc, turn, seen)?);
     }
-    let text = seen_text(alloc, viewer, shelf, &decisions, resource, wanted)?;
+    let text = seen_text(alloc, viewer, shelf, &patterns, resource, wanted)?;
     Ok(Plan {
         reply: Reply::Shown(text),
         change: Change::Nothing,

@@ -2,11 +2,12 @@
 ghost use Rattle.std.specs.Prelude.{◌≡◌, filter, None, IfOk};
 ghost use Rattle.std.specs.List.{list_any};
 ghost use Rattle.scim_schema.specs.Units.{units};
-ghost use Rattle.scim_policy.specs.Table.{access_in};
+ghost use Rattle.scim_policy.specs.PatternTable.{access_in};
 ghost use Rattle.scim_view.specs.View.{viewer_of, visible};
 ghost use Rattle.scim_shelf.specs.Shelves.{IsReadFrom, OnlyReads};
 ghost use Rattle.scim_shelf.specs.Stores.{AreOf};
 ghost use Rattle.scim_service.specs.Step as spec;
+ghost use Rattle.scim_service.specs.code.Reached.{AreRightsOn};
 ghost use Rattle.scim_service.specs.code.Questions.{is_in_question};
 
 use crate::changed_resources::plan_changed;
@@ -25,7 +26,7 @@ use scim_view::{Viewer, Wanted};
 use std::alloc::Global;
 
 /// Whether the client may write the unit: it isn't readOnly, and the policy forbids no leaf of it.
-fn is_writable(rights: &Rights, kind: Kind, unit: Unit) -> bool
+fn is_writable(rights: &Rights<'_>, kind: Kind, unit: Unit) -> bool
     ensures { result ≡ spec.is_writable kind (access_in rights.now) unit }
 {
     mutability_of(kind, unit) != Mutability::ReadOnly && rights.forbidding(kind, unit).is_none()
@@ -34,7 +35,7 @@ fn is_writable(rights: &Rights, kind: Kind, unit: Unit) -> bool
 /// Returns the units in `units` that the client may write, in order.
 fn writable_of(
     alloc: Global,
-    rights: &Rights,
+    rights: &Rights<'_>,
     kind: Kind,
     units: &[Unit],
 ) -> Result<Vec<Unit>, NoMemory>
@@ -51,7 +52,7 @@ fn writable_of(
 }
 
 /// Whether the unit isn't readOnly, and the body gives it although the client may not write it.
-fn is_questionable(rights: &Rights, draft: &Draft, unit: Unit) -> bool
+fn is_questionable(rights: &Rights<'_>, draft: &Draft, unit: Unit) -> bool
     ensures { result ≡ is_in_question (access_in rights.now) draft.now unit }
 {
     mutability_of(draft.kind(), unit) != Mutability::ReadOnly
@@ -60,7 +61,7 @@ fn is_questionable(rights: &Rights, draft: &Draft, unit: Unit) -> bool
 }
 
 /// Whether the body gives at least one of `units` that isn't readOnly and that the client may not write.
-fn is_any_questionable(rights: &Rights, draft: &Draft, units: &[Unit]) -> bool
+fn is_any_questionable(rights: &Rights<'_>, draft: &Draft, units: &[Unit]) -> bool
     ensures { result ≡ list_any (is_in_question (access_in rights.now) draft.now) units.now }
 {
     for unit in units {
@@ -76,7 +77,7 @@ fn is_any_questionable(rights: &Rights, draft: &Draft, units: &[Unit]) -> bool
 /// gives the unit other values than the client sees. `seen` is the resource as the client sees it.
 fn unit_denied(
     alloc: Global,
-    rights: &Rights,
+    rights: &Rights<'_>,
     draft: &Draft,
     seen: &Part,
     unit: Unit,
@@ -94,7 +95,7 @@ fn unit_denied(
 /// unit is denied.
 fn first_denied_among(
     alloc: Global,
-    rights: &Rights,
+    rights: &Rights<'_>,
     draft: &Draft,
     seen: &Part,
     units: &[Unit],
@@ -117,11 +118,11 @@ fn first_denied_among(
 fn first_unit_denied(
     alloc: Global,
     viewer: &Viewer<'_>,
-    rights: &Rights,
+    rights: &Rights<'_>,
     draft: &Draft,
     resource: &Resource,
 ) -> Result<Option<(Leaf, Decision)>, NoMemory>
-    requires { access_in rights.now ≡ spec.access_to (viewer_of viewer.now) resource.now }
+    requires { AreRightsOn (viewer_of viewer.now) resource.now rights.now }
     ensures { IfOk result (λ o. o
         ≡ spec.first_unit_denial (spec.access_to (viewer_of viewer.now) resource.now)
         draft.now (visible (viewer_of viewer.now) resource.now) (units draft.now.kind)) }
@@ -144,10 +145,10 @@ fn plan_allowed<S: Shelf>(
     turn: &Turn,
     draft: &Draft,
     wanted: &Wanted,
-    rights: &Rights,
+    rights: &Rights<'_>,
     resource: Resource,
 ) -> Result<Plan, Failed<ShelfFault>>
-    requires rights { access_in rights.now ≡ spec.access_to (viewer_of viewer.now) resource }
+    requires rights { AreRightsOn (viewer_of viewer.now) resource rights.now }
     requires kind { draft.now.kind ≡ resource.kind }
     ensures plan { IsReadFrom S.stands S.is_honest shelf.old shelf.new result (λ store plan.
         AreOf resource.kind resource.id store.resources
@@ -173,10 +174,10 @@ fn plan_seen<S: Shelf>(
     turn: &Turn,
     draft: &Draft,
     wanted: &Wanted,
-    rights: &Rights,
+    rights: &Rights<'_>,
     resource: Resource,
 ) -> Result<Plan, Failed<ShelfFault>>
-    requires { access_in rights.now ≡ spec.access_to (viewer_of viewer.now) resource }
+    requires { AreRightsOn (viewer_of viewer.now) resource rights.now }
     ensures plan { IsReadFrom S.stands S.is_honest shelf.old shelf.new result (λ store plan.
         AreOf resource.kind resource.id store.resources
         → plan ≡ spec.replacement_plan

@@ -17,21 +17,21 @@ use std::alloc::Global;
 /// The resource that a request names, or the plan that refuses the request if there is no such resource or
 /// the client doesn't see it.
 #[derive(Drop)]
-pub(crate) enum Reached {
+pub(crate) enum Reached<'p> {
     /// The client sees the resource. Has the resource and the client's rights to it.
-    Seen(Resource, Rights),
+    Seen(Resource, Rights<'p>),
     /// There is no such resource, or the client doesn't see it. Has the plan that refuses the request.
     Told(Plan),
 }
 
 /// Reads the resource that the request names and the client's rights to it. Returns the plan that refuses the
 /// request instead if there is no such resource or the client doesn't see it.
-pub(crate) fn reach<S: Shelf>(
+pub(crate) fn reach<'p, S: Shelf>(
     alloc: Global,
-    viewer: &Viewer<'_>,
+    viewer: &Viewer<'p>,
     shelf: &mut S,
     turn: &Turn,
-) -> Result<Reached, Failed<ShelfFault>>
+) -> Result<Reached<'p>, Failed<ShelfFault>>
     ensures answer { IsReadFrom S.stands S.is_honest shelf.old shelf.new result (λ store it.
         IsReached (viewer_of viewer.now) turn.now store.resources it) }
     ensures rights { IfOk result (HasRights (viewer_of viewer.now)) }
@@ -42,7 +42,7 @@ pub(crate) fn reach<S: Shelf>(
         return Ok(Reached::Told(plan));
     };
     let rights = viewer.policy.rights(alloc, viewer.client, &resource)?;
-    let seen = rights.read().of(Leaf::simple(Attribute::Id));
+    let seen = rights.read().whole(Leaf::simple(Attribute::Id));
     if seen.allow {
         return Ok(Reached::Seen(resource, rights));
     }

@@ -1,9 +1,12 @@
-use Rattle.std.proofs.Common.{ap, ◌∙◌, subst}
+use Rattle.std.proofs.Common.{ap, ◌∙◌, subst, List}
 use Rattle.std.specs.Prelude.{Option}
+use Rattle.scim_schema.specs.declared.Leaf.{Leaf}
 use Rattle.scim_schema.specs.declared.Attribute.TheVariants.{Id}
 use Rattle.scim_schema.specs.Units.{simple}
 use Rattle.scim_policy.specs.declared.rules.Decision.{Decision}
-use Rattle.scim_policy.specs.Table.{access_in, decision}
+use Rattle.scim_policy.specs.PatternTable.{access_in}
+use Rattle.scim_policy.specs.PatternTable.{rules_in}
+use Rattle.scim_policy.specs.Patterns.{PatternRule, decisions_of, whole_decision}
 use Rattle.scim_view.specs.View.{viewer_of}
 use Rattle.scim_service.specs.declared.plans.Plan.{Plan}
 use Rattle.scim_service.specs.code.Refusals.{IsRefusalToChange}
@@ -26,7 +29,9 @@ returns-clause-plan g c store stands honest base is own_kind =
     let earlier = c.in_ok-text.ensures.read.honest honest in
     let refusal = c.in_ok-refusal.ensures.refusal store stands earlier base is in
     let free = subst (λ (it : Option Plan). IsRefusalToChange viewer c.args.turn.now cs before own it) (none_found c.in_ok-refusal.refusal c.in_default.not-Some) refusal in
-    let rule = ap (λ (d : Decision). d.rule) (c.of-rule.ensures ∙ ap (decision c.read-2.result.now) c.simple.ensures ∙ c.read-2.ensures (simple Id)) in
+    let rule = ap (λ (d : Decision). d.rule)
+    (c.whole-rule.ensures ∙ ap (λ (l : Leaf). whole_decision (decisions_of (rules_in c.read-2.result.now l))) c.simple.ensures
+    ∙ ap (λ (rs : List PatternRule). whole_decision (decisions_of rs)) (c.read-2.ensures (simple Id))) in
     let text = c.in_ok-text.ensures.text store (c.in_ok-refusal.ensures.read.store store stands) honest base is own_kind in
     c.in_ok-changed_with.ensures
-    ∙ changed_is viewer c.args.turn.now cs c.args.wanted.now before c.args.changed.changed own c.of-rule.result.rule c.in_ok-text.text free.0 free.1 rule text
+    ∙ changed_is viewer c.args.turn.now cs c.args.wanted.now before c.args.changed.changed own c.whole-rule.result.rule c.in_ok-text.text free.0 free.1 rule text

@@ -1,7 +1,7 @@
 use Rattle.std.proofs.Common.{◌≡◌, true, false, sym, ◌∙◌, ap, List, ℕ}
 use Rattle.std.specs.Prelude.{None, Some}
 use Rattle.scim_policy.specs.Access.{widening}
-use Rattle.scim_policy.specs.Table.{access_in}
+use Rattle.scim_policy.specs.PatternTable.{access_in}
 use Rattle.scim_view.specs.View.{viewer_of}
 use Rattle.scim_shelf.specs.Stores.{is_taken, without}
 use Rattle.scim_service.specs.Step.{access_to}
@@ -25,7 +25,7 @@ returns-in_ok-plan-in-Some-clause-refusal g c store stands honest base is wanted
     let free : is_taken (without own.id cs) own ≡ false
     = ap (λ (id : List ℕ). is_taken (without id cs) own) (sym c.id.ensures) ∙ sym (c.in_ok-has_taken_name.ensures.answer store stands honest base is) ∙ c.if-branch.false in
     let opens : widening own.kind before (access_to viewer own) ≡ Some (c.in-Some.field-0-0, c.in-Some.leaf, c.in-Some.decision)
-    = sym (c.widening.ensures ∙ (λ i. widening (c.kind.ensures i) before (c.requires i))) ∙ c.in-Some.is in
+    = sym (c.in_ok-leaf.ensures ∙ (λ i. widening (c.kind.ensures i) before (c.requires i))) ∙ c.in-Some.is in
     c.in_ok-plan-in-Some.ensures
     ∙ widened_is viewer c.args.turn.now cs wanted before changed own c.in-Some.field-0-0 c.in-Some.leaf c.in-Some.decision free opens
 
@@ -38,5 +38,5 @@ returns-in-None-clause-refusal g c store stands honest base is =
     let free : is_taken (without own.id cs) own ≡ false
     = ap (λ (id : List ℕ). is_taken (without id cs) own) (sym c.id.ensures) ∙ sym (c.in_ok-has_taken_name.ensures.answer store stands honest base is) ∙ c.if-branch.false in
     let narrow : widening own.kind before (access_to viewer own) ≡ None
-    = sym (c.widening.ensures ∙ (λ i. widening (c.kind.ensures i) before (c.requires i))) ∙ c.in-None.is in
+    = sym (c.in_ok-leaf.ensures ∙ (λ i. widening (c.kind.ensures i) before (c.requires i))) ∙ c.in-None.is in
     (free, narrow)

@@ -3,7 +3,7 @@ use Rattle.std.specs.Prelude.{map}
 use Rattle.std.specs.List.{flat_map}
 use Rattle.scim_patch_steps.specs.Patch.{units_in}
 use Rattle.scim_patch_steps.specs.Kept.{step_of}
-use Rattle.scim_policy.specs.Table.{access_in}
+use Rattle.scim_policy.specs.PatternTable.{access_in}
 use Rattle.scim_service.specs.Step as spec
 use Rattle.scim_service.proofs.patch_plans.first_forbidden.Given as goal
 

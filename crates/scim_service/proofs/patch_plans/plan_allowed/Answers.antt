@@ -22,6 +22,6 @@ returns-in-Ok-clause-plan g c =
     (λ plan answer store stands honest base is own_kind.
     (let same = patched_kind patch turn.moment own next.resource next.changed (sym c.in-Ok.ensures.outcome) in
     answer store stands honest base is (subst₂ (λ (k : Kind) (i : List ℕ). AreOf k i store.resources) (sym same.0) (sym same.1) own_kind)
-    ∙ ap (λ (a : Access). unique_change_plan viewer turn store.resources wanted a next.changed next.resource) c.requires.rights
+    ∙ ap (λ (a : Access). unique_change_plan viewer turn store.resources wanted a next.changed next.resource) c.requires.rights.access
     ∙ patched_is viewer turn store.resources patch wanted own next.resource next.changed c.in-Ok.ensures.outcome))
     c.plan_changed.ensures.plan

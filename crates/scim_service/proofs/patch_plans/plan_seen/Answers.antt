@@ -20,7 +20,7 @@ returns-in-None-clause-plan g c =
     let fits : sameb the_kind patch.kind own.kind ≡ true
     = sym (λ i. sameb the_kind (c.kind.ensures i) (c.kind-2.ensures i)) ∙ not_false (sameb the_kind c.kind.result c.kind-2.result) (sym c.ne.ensures ∙ c.if-ne.false) in
     let none : first_forbidden patch.kind (access_to viewer own) (touched patch) ≡ None
-    = ap (λ (a : Access). first_forbidden patch.kind a (touched patch)) (sym c.requires) ∙ sym c.first_forbidden.ensures ∙ c.in-None.is in
+    = ap (λ (a : Access). first_forbidden patch.kind a (touched patch)) (sym c.requires.access) ∙ sym c.first_forbidden.ensures ∙ c.in-None.is in
     IfOk-weaker c.plan_allowed.result _ _
     (λ plan answer store stands honest base is own_kind.
     answer store stands honest base is own_kind ∙ patching_is viewer c.args.turn.now store.resources patch c.args.wanted.now own fits none)

@@ -1,13 +1,25 @@
-use Rattle.std.proofs.Common.{◌∙◌, ap}
+use Rattle.std.proofs.Common.{◌∙◌, refl}
+use Rattle.std.specs.Prelude.{Some}
 use Rattle.scim_schema.specs.declared.Attribute.TheVariants.{Id}
 use Rattle.scim_schema.specs.Units.{simple}
-use Rattle.scim_policy.specs.Table.{decision}
-use Rattle.scim_view.specs.View.{viewer_of}
-use Rattle.scim_service.proofs.PlanLemmas.{got_is}
+use Rattle.scim_view.specs.View.{viewer_of, read_decision}
+use Rattle.scim_service.specs.Step.{get_plan}
+use Rattle.scim_service.proofs.PlanLemmas.{got_is, id_read}
+use Rattle.scim_service.proofs.ReplaceLemmas.{hidden_is}
 use Rattle.scim_service.proofs.plans.plan_show.Goals as goal
+
+pub returns-then-not-seen-clause-plan : goal.returns-then-not-seen-clause-plan
+returns-then-not-seen-clause-plan g c store stands honest base is =
+    let viewer = viewer_of c.args.viewer.now in
+    let own = c.args.resource.now in
+    let decides = id_read c.in_ok-patterns.patterns viewer own c.simple.result c.whole-seen.result c.whole-seen.ensures c.simple.ensures c.in_ok-patterns.ensures in
+    c.in_ok-hidden.ensures
+    ∙ hidden_is viewer c.args.turn.now (get_plan viewer c.args.turn.now store.resources c.args.wanted.now) own (Some own) c.whole-seen.result decides c.if-not-seen.true refl
 
 pub returns-clause-plan : goal.returns-clause-plan
 returns-clause-plan g c store stands honest base is =
-    let decides = c.of-seen.ensures ∙ ap (decision c.in_ok-decisions.decisions) c.simple.ensures ∙ c.in_ok-decisions.ensures (simple Id) in
-    got_is (viewer_of c.args.viewer.now) c.args.turn.now store.resources c.args.wanted.now c.args.resource.now c.in_ok-text.text c.in_ok-allowed.field-0 c.of-seen.result
+    let viewer = viewer_of c.args.viewer.now in
+    let own = c.args.resource.now in
+    let decides = id_read c.in_ok-patterns.patterns viewer own c.simple.result c.whole-seen.result c.whole-seen.ensures c.simple.ensures c.in_ok-patterns.ensures in
+    got_is viewer c.args.turn.now store.resources c.args.wanted.now own c.in_ok-text.text c.in_ok-allowed.field-0 c.whole-seen.result
     (c.in_ok-text.ensures.text store stands honest base is) c.in_ok-allowed.ensures decides c.if-not-seen.false

@@ -1,5 +1,5 @@
 use Rattle.std.proofs.Common.{◌≡◌, drop}
-use Rattle.scim_policy.specs.Table.{access_in}
+use Rattle.scim_policy.specs.PatternTable.{access_in}
 use Rattle.scim_service.specs.Step.{first_unit_denial}
 use Rattle.scim_service.proofs.put_plans.first_denied_among.Given as goal
 

@@ -3,7 +3,7 @@ use Rattle.std.specs.List.{list_any}
 use Rattle.scim_schema.specs.declared.Unit.{Unit as AttributeUnit}
 use Rattle.scim_schema.specs.Units.{units}
 use Rattle.scim_policy.specs.Access.{Access}
-use Rattle.scim_policy.specs.Table.{access_in}
+use Rattle.scim_policy.specs.PatternTable.{access_in}
 use Rattle.scim_view.specs.View.{viewer_of, visible}
 use Rattle.scim_service.specs.Step.{access_to}
 use Rattle.scim_service.specs.code.Questions.{is_in_question}
@@ -20,7 +20,7 @@ returns-then-not-is_any_questionable c =
     let none : list_any (is_in_question (access_in c.args.rights.now) draft) all ≡ false
     = sym (c.is_any_questionable.ensures ∙ ap (λ (us : List AttributeUnit). list_any (is_in_question (access_in c.args.rights.now) draft) us) same) ∙ c.if-not-is_any_questionable.true in
     sym (none_questioned (access_to viewer resource) draft (visible viewer resource) all
-    (subst (λ (a : Access). list_any (is_in_question a draft) all ≡ false) c.requires none))
+    (subst (λ (a : Access). list_any (is_in_question a draft) all ≡ false) c.requires.access none))
 
 -- by name, so that a body that breaks it is refused at once
 pub returns : goal.returns

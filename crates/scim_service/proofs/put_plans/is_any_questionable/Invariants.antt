@@ -1,6 +1,6 @@
 use Rattle.std.proofs.Common.{◌≡◌, drop}
 use Rattle.std.specs.List.{list_any}
-use Rattle.scim_policy.specs.Table.{access_in}
+use Rattle.scim_policy.specs.PatternTable.{access_in}
 use Rattle.scim_service.specs.code.Questions.{is_in_question}
 use Rattle.scim_service.proofs.put_plans.is_any_questionable.Given as goal
 

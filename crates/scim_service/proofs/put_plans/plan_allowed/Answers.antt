@@ -5,7 +5,7 @@ use Rattle.scim_schema.specs.declared.Unit.{Unit as AttributeUnit}
 use Rattle.scim_schema.specs.Mutability.{is_fixed}
 use Rattle.scim_schema.specs.Units.{units}
 use Rattle.scim_policy.specs.Access.{Access}
-use Rattle.scim_policy.specs.Table.{access_in}
+use Rattle.scim_policy.specs.PatternTable.{access_in}
 use Rattle.scim_view.specs.View.{viewer_of}
 use Rattle.scim_shelf.specs.Stores.{AreOf}
 use Rattle.scim_service.specs.Step.{access_to, is_writable, writable, unique_change_plan, writable_replacement_plan}
@@ -32,12 +32,12 @@ returns-in-Ok-clause-plan g c =
     let us = c.as_slice.result.now in
     let all : c.units.result.now ≡ units own.kind = c.units.ensures ∙ ap units c.kind-kind.ensures in
     let writes : us ≡ writable own.kind (access_to viewer own)
-    = c.as_slice.ensures.value ∙ c.in_ok-writable.ensures ∙ (λ i. filter (is_writable (c.kind-kind.ensures i) (c.requires.rights i)) (all i)) in
+    = c.as_slice.ensures.value ∙ c.in_ok-writable.ensures ∙ (λ i. filter (is_writable (c.kind-kind.ensures i) (c.requires.rights.access i)) (all i)) in
     IfOk-weaker c.plan_changed.result _ _
     (λ plan answer store stands honest base is own_kind.
     (let same = replaced_kind draft us turn.moment own next.resource c.in-Ok.ensures.value in
     answer store stands honest base is (subst₂ (λ (k : Kind) (i : List ℕ). AreOf k i store.resources) (sym same.0) (sym same.1) own_kind)
-    ∙ ap (λ (a : Access). unique_change_plan viewer turn store.resources wanted a next.changed next.resource) c.requires.rights
+    ∙ ap (λ (a : Access). unique_change_plan viewer turn store.resources wanted a next.changed next.resource) c.requires.rights.access
     ∙ written_is viewer turn store.resources draft wanted own us next.changed next.resource c.in-Ok.ensures.value c.in-Ok.ensures.changed
     ∙ ap (λ (ws : List AttributeUnit). writable_replacement_plan viewer turn store.resources draft wanted own ws) writes))
     c.plan_changed.ensures.plan

@@ -1,5 +1,5 @@
 use Rattle.std.proofs.Common.{◌≡◌, filter, take}
-use Rattle.scim_policy.specs.Table.{access_in}
+use Rattle.scim_policy.specs.PatternTable.{access_in}
 use Rattle.scim_service.specs.Step.{is_writable}
 use Rattle.scim_service.proofs.put_plans.writable_of.Given as goal
 
