@@ -1,34 +1,46 @@
 -- A change of nothing that a client may see, cell by cell.
 use Rattle.std.proofs.Common.{◌≡◌, ◌<◌, ◌⊎◌, refl, sym, ◌∙◌, ap, ap₂, subst, ℕ, zero, suc, Bool, true, false, List, [], ◌∷◌, map, filter, inl, inr, arith, if◌then◌else◌}
-use Rattle.std.specs.Prelude.{All, AllPairs, Option, None, Some, not, ◌||◌}
+use Rattle.std.specs.Prelude.{All, AllPairs, Option, None, Some, not, ◌&&◌, ◌||◌}
+use Rattle.std.specs.List.{list_any}
+use Rattle.std.specs.Option.{option_eq}
+use Rattle.std.specs.Ordering.{is_eq}
+use denote.Enum.Bare.{sameb}
 use Rattle.std.proofs.lemmas.Bool.{cases_Bool, and_parts}
 use Rattle.std.proofs.lemmas.List.Elements.{All-head, All-tail, All-nil, All-filter, All-weaker}
 use Rattle.std.proofs.lemmas.List.Kept.{AllPairs-filter}
 use mathlib.Core.Path.{fun_ext}
 use Rattle.scim_schema.specs.declared.Kind.{Kind}
+use Rattle.scim_schema.specs.declared.Attribute.TheVariants.{Groups}
 use Rattle.scim_schema.specs.declared.Op.TheVariants.{Read}
+use Rattle.scim_schema.specs.contracts.Kind.{the_type as the_kind}
+use Rattle.scim_schema.specs.Characteristics.{is_multi_valued}
 use Rattle.scim_schema.specs.declared.Leaf.{Leaf}
 use Rattle.scim_schema.specs.declared.Unit.{Unit as AttributeUnit}
 use Rattle.scim_schema.specs.Mutability.{is_write_only}
-use Rattle.scim_schema.specs.Units.{unit_of, is_same_leaf}
+use Rattle.scim_schema.specs.Units.{unit_of, is_same_attribute, is_same_leaf}
 use Rattle.scim_schema.proofs.Facts.{leaf_one, leaf_same}
 use Rattle.scim_cell.specs.declared.atoms.Atom.{Atom}
 use Rattle.scim_cell.specs.declared.rows.Field.{Field}
 use Rattle.scim_cell.specs.Content.{Content}
-use Rattle.scim_cell.specs.Place.{sub_attribute_number}
+use Rattle.scim_cell.specs.Place.{sub_attribute_number, unit_cmp}
 use Rattle.scim_cell.specs.Rows.{Row, Test, by_leaf, rows, content, values, has_fields, restricted, restricted_row, atom_in, atom_at, cell_at, IsSoundField, IsValue, AreSound}
 use Rattle.scim_cell.proofs.Facts.{PartsRise}
+use Rattle.scim_filter.specs.Truth.{truth_in_value}
 use Rattle.scim_value.specs.Resource.{IsResource}
 use Rattle.scim_value.proofs.Facts.{sound_part}
 use Rattle.scim_policy.specs.Control.{control, is_named_in, is_unique}
-use Rattle.scim_policy.proofs.Facts.{decide_same}
-use Rattle.scim_view.specs.View.{Viewer, read_decision, may_read, may_be_seen, visible, visible_by}
+use Rattle.scim_policy.specs.declared.rules.Decision.{Decision}
+use Rattle.scim_policy.specs.Fits.{attribute_before, covers_in_part, covers_partly, filtered_on}
+use Rattle.scim_policy.specs.Patterns.{decide_in, decided_for, pattern_rules}
+use Rattle.scim_policy.specs.Rules.{FilteredPath, KindPaths, Rule}
+use Rattle.scim_policy.proofs.Facts.{patterns_same, undivided_pattern}
+use Rattle.scim_view.specs.View.{Viewer, may_read, may_be_seen, visible, visible_by}
 use Rattle.scim_change.proofs.Facts.{values_fit}
-use Rattle.scim_noninterference.specs.Cells.{IsHiddenAt}
+use Rattle.scim_noninterference.specs.Cells.{IsHiddenAt, has_value_filter}
 use Rattle.scim_noninterference.specs.Laws.{HiddenCellsAreQuiet}
 use Rattle.scim_noninterference.proofs.UnitLemmas.{same_restricted, attributes_same}
-use Rattle.scim_noninterference.proofs.StoreLemmas.{may_see}
-use Rattle.scim_noninterference.proofs.ChangeLemmas.{sees_leaf}
+use Rattle.scim_noninterference.proofs.RowLemmas.{restricted_kept}
+use Rattle.scim_noninterference.proofs.StoreLemmas.{may_see, reading_same}
 
 -- ---- the fields of a value, by the atoms of their leaves
 
@@ -231,17 +243,102 @@ cell_by_leaf keep l b same k rs ss stays = atom_by_leaf keep l b same k (values 
     by true h = h refl
     by false h = refl
 
+-- ---- leaves that no value filter is on
+
+-- whether the viewer sees a leaf of a resource in all values
+abbrev sees_leaf : Viewer → Content → Leaf → Bool
+sees_leaf v c l = not (is_write_only c.kind l) && may_read v c l
+
+neither : (a b : Bool) → a || b ≡ false → (a ≡ false) × (b ≡ false)
+neither true b e = cc
+neither false b e = (refl, e)
+
+none_before : (l : Leaf) (fs : List FilteredPath) → list_any (λ (f : FilteredPath). option_eq is_same_attribute (attribute_before f.tree) (Some l.attribute)) fs ≡ false
+    → list_any (covers_in_part l) fs ≡ false
+none_before l [] none = refl
+none_before l (f ∷ fs) none =
+    let parts = neither (option_eq is_same_attribute (attribute_before f.tree) (Some l.attribute)) _ none in
+    elim (cases_Bool (is_multi_valued l.attribute)) [
+      | inr single ↦ rw single (none_before l fs parts.1)
+      | inl multi ↦ elim (cases_Bool (is_same_attribute l.attribute Groups)) [
+        | inl own ↦ rw (multi, own) (none_before l fs parts.1)
+        | inr other ↦ rw (multi, other, parts.0) (none_before l fs parts.1)
+      ]
+    ]
+
+none_of_kind : (kind : Kind) (l : Leaf) (ps : List KindPaths)
+    → list_any (λ (p : KindPaths). list_any (λ (f : FilteredPath). option_eq is_same_attribute (attribute_before f.tree) (Some l.attribute)) p.filtered) ps ≡ false
+    → list_any (covers_in_part l) (filtered_on kind ps) ≡ false
+none_of_kind kind l [] none = refl
+none_of_kind kind l (p ∷ ps) none =
+    let parts = neither (list_any (λ (f : FilteredPath). option_eq is_same_attribute (attribute_before f.tree) (Some l.attribute)) p.filtered) _ none in
+    elim (cases_Bool (sameb the_kind kind p.kind)) [
+      | inl own ↦ rw own (none_before l p.filtered parts.0)
+      | inr other ↦ rw other (none_of_kind kind l ps parts.1)
+    ]
+
+none_in_part : (c : Content) (l : Leaf) (rs : List Rule) → has_value_filter rs l.attribute ≡ false → list_any (covers_partly Read c l) rs ≡ false
+none_in_part c l [] none = refl
+none_in_part c l (r ∷ rs) none =
+    let parts = neither (list_any (λ (p : KindPaths). list_any (λ (f : FilteredPath). option_eq is_same_attribute (attribute_before f.tree) (Some l.attribute)) p.filtered) r.paths) _ none in
+    rw (none_of_kind c.kind l r.paths parts.0) (none_in_part c l rs parts.1)
+
+-- it is read in each value, or in none
+sees_alike : (v : Viewer) (c : Content) (l : Leaf) → has_value_filter v.policy l.attribute ≡ false → (r : Row) → may_see v c r l ≡ sees_leaf v c l
+unfolding decide_in
+sees_alike v c l none r =
+    ap (λ (d : Decision). not (is_write_only c.kind l) && d.allow)
+    (ap (decided_for (λ t. truth_in_value t r)) (undivided_pattern v.policy v.client c l (none_in_part c l v.policy none)))
+
 module _ (v : Viewer) (old new : Content) (one : IsResource old) (two : IsResource new) (kinds : old.kind ≡ new.kind) (ids : old.id ≡ new.id)
     (hidden : (l : Leaf) (k : ℕ) → IsHiddenAt v old new l k) where
   -- whether a leaf's attribute is one that decisions or uniqueness rest on
   abbrev decides_by : Kind → Leaf → Bool
   decides_by kind l = is_named_in v.policy l.attribute || is_unique kind l.attribute
 
+  -- values of an attribute that a value filter is on stay
+  abbrev everything : Test
+  everything r l = true
+
+  all_kept : (u : AttributeUnit) (rs : List Row) → AreSound old.kind rs → restricted everything (values u rs) ≡ values u rs
+  all_kept u rs sound =
+      restricted_kept everything (values u rs) (All-filter (λ (r : Row). is_eq (unit_cmp r.unit u)) (λ r. has_fields r ≡ true) rs sound.full)
+      (λ k e l. λ j f m. refl)
+
+  new_sound : AreSound old.kind (rows new)
+  new_sound = subst (λ (k : Kind). AreSound k (rows new)) (sym kinds) (sound_part new two.part)
+
+  filtered_stay : (u : AttributeUnit) → has_value_filter v.policy u.attribute ≡ true → values u (rows old) ≡ values u (rows new)
+  filtered_stay u filtered =
+      let first = sound_part old one.part in
+      sym (all_kept u (rows old) first)
+      ∙ values_same old.kind everything u (values u (rows old)) (values u (rows new)) (values_fit old.kind u (rows old) first).own (values_fit old.kind u (rows new) new_sound).own cells
+      ∙ all_kept u (rows new) new_sound
+    where
+      cell : (l : Leaf) (k : ℕ) → unit_of l ≡ u → cell_at l k (rows old) ≡ cell_at l k (rows new)
+      cell l k own = elim (hidden l k) [
+        | inl same ↦ same
+        | inr parts ↦ absurd (let yes' : has_value_filter v.policy l.attribute ≡ true = ap (λ (w : AttributeUnit). has_value_filter v.policy w.attribute) own ∙ filtered in let no' = parts.3 in cc)
+      ]
+
+      cells : CellsAgree old.kind everything u (values u (rows old)) (values u (rows new))
+      cells l k own =
+          atom_by_leaf everything l true (λ r. refl) k (values u (rows old))
+          ∙ subst (λ (w : AttributeUnit). atom_at l k (values w (rows old)) ≡ atom_at l k (values w (rows new))) own (cell l k own)
+          ∙ sym (atom_by_leaf everything l true (λ r. refl) k (values u (rows new)))
+
   -- cells of a leaf that may be seen stay
   seen_stays : (l : Leaf) (k : ℕ) → sees_leaf v old l ≡ true → cell_at l k (rows old) ≡ cell_at l k (rows new)
   seen_stays l k sees = elim (hidden l k) [
     | inl same ↦ same
     | inr parts ↦ (let reads : may_read v old l ≡ true = (and_parts (not (is_write_only old.kind l)) (may_read v old l) sees).1 in let no' = parts.0 in cc)
+  ]
+
+  -- so the same cells are seen
+  cell_stays : (l : Leaf) (k : ℕ) → kept_cell (may_see v old) l k (rows old) ≡ kept_cell (may_see v old) l k (rows new)
+  cell_stays l k = elim (cases_Bool (has_value_filter v.policy l.attribute)) [
+    | inl filtered ↦ ap (λ rs. atom_at l k (map (restricted_row (may_see v old)) rs)) (filtered_stay (unit_of l) filtered)
+    | inr none ↦ cell_by_leaf (may_see v old) l (sees_leaf v old l) (sees_alike v old l none) k (rows old) (rows new) (seen_stays l k)
   ]
 
   -- and those by which it is decided
@@ -265,10 +362,10 @@ module _ (v : Viewer) (old new : Content) (one : IsResource old) (two : IsResour
   seen_kept : visible v old ≡ visible v new
   unfolding visible visible_by
   seen_kept =
-      let decisions : read_decision v old ≡ read_decision v new = fun_ext (λ (l : Leaf). decide_same v.policy v.client Read old new l kinds control_kept) in
-      let may : may_see v old ≡ may_see v new = λ i. may_be_seen (decisions i) (kinds i) in
+      let rules : pattern_rules v.policy v.client old ≡ pattern_rules v.policy v.client new = fun_ext (λ (l : Leaf). patterns_same v.policy v.client old new l kinds control_kept) in
+      let may : may_see v old ≡ may_see v new = λ i. may_be_seen (reading_same v old new rules i) (kinds i) in
       let seen : restricted (may_see v old) (rows old) ≡ restricted (may_see v new) (rows new)
-      = cells_kept (may_see v old) old new one two kinds (λ l k. cell_by_leaf (may_see v old) l (sees_leaf v old l) (λ r. refl) k (rows old) (rows new) (seen_stays l k))
+      = cells_kept (may_see v old) old new one two kinds cell_stays
       ∙ ap (λ keep. restricted keep (rows new)) may in
       λ i. content (kinds i) (ids i) (seen i)
 

@@ -1,6 +1,7 @@
 -- A change of what a client may write: where it can't tell two resources apart before, it can't tell them apart afterwards.
 use Rattle.std.proofs.Common.{◌≡◌, refl, sym, ◌∙◌, ap, ap₂, subst, ℕ, Bool, true, false, List, filter, inl, inr, get_or}
 use Rattle.std.specs.Prelude.{All, not, ◌&&◌, ◌||◌, None}
+use Rattle.std.specs.List.{list_any}
 use Rattle.std.specs.Ordering.{is_eq}
 use Rattle.std.proofs.lemmas.Bool.{cases_Bool, and_parts, and_right}
 use Rattle.std.proofs.lemmas.List.Elements.{All-filter, All-weaker}
@@ -28,18 +29,20 @@ use Rattle.scim_policy.specs.Rules.{Rule}
 use Rattle.scim_policy.specs.Access.{Access, access, forbidding, widening}
 use Rattle.scim_policy.specs.Control.{control, is_named_in, is_unique}
 use Rattle.scim_policy.specs.Decide.{decide}
-use Rattle.scim_policy.proofs.Facts.{decide_same}
-use Rattle.scim_view.specs.View.{Viewer, may_be_seen, read_decision}
+use Rattle.scim_policy.specs.Opened.{allows}
+use Rattle.scim_policy.specs.Patterns.{decisions_of, pattern_rules}
+use Rattle.scim_policy.proofs.Facts.{decide_same, patterns_same}
+use Rattle.scim_view.specs.View.{Viewer, may_be_seen, read_pattern}
 use Rattle.scim_change.specs.Laws.{AgreeAt, IsLeft}
 use Rattle.scim_noninterference.specs.Names.{ControlRestsOnUnits}
 use Rattle.scim_noninterference.proofs.RowLemmas.{KeepsAll, values_restricted, restricted_kept, restricted_narrower}
-use Rattle.scim_view.proofs.Facts.{passing, readable_leaf, not_wider}
+use Rattle.scim_view.proofs.Facts.{narrowed, passing, written_seen as written_leaf_seen}
 use Rattle.scim_noninterference.proofs.UnitLemmas.{attributes_same, kept_same}
-use Rattle.scim_noninterference.proofs.StoreLemmas.{Traits, may_see, traits, access_same, may_see_same}
+use Rattle.scim_noninterference.proofs.StoreLemmas.{Traits, may_see, traits, access_same, may_see_same, reading_same}
 
--- whether the viewer may see a leaf of a resource
-abbrev pub sees_leaf : Viewer → Content → Leaf → Bool
-sees_leaf v c l = not (is_write_only c.kind l) && (read_decision v c l).allow
+-- whether the viewer may see a leaf of a resource in some value
+abbrev pub sees_some : Viewer → Content → Leaf → Bool
+sees_some v c l = not (is_write_only c.kind l) && list_any allows (read_pattern v c l)
 
 -- what the viewer may do with a resource
 abbrev pub access_of : Viewer → Content → Access
@@ -81,9 +84,7 @@ module _ (v : Viewer) where
   module _ (c : Content) (own : IsResource c) (u : AttributeUnit) (free : forbidding c.kind (access_of v c) u ≡ None) where
     seen_field : (r : Row) → r.unit ≡ u → (f : Field) → IsSoundField c.kind r.unit f → MayBeKept c.kind f → may_see v c r f.leaf ≡ true
     seen_field r at f is kept =
-        let open' = kept_open c.kind f kept in
-        let reads : (read_decision v c f.leaf).allow ≡ true = readable_leaf c.kind (access_of v c) u free f.leaf (is.0 ∙ at) is.1 open' in
-        rw (open', reads) refl
+        written_leaf_seen v c u free f.leaf (is.0 ∙ at) is.1 (kept_open c.kind f kept) r
 
     seen_row : (r : Row) → is_eq (unit_cmp r.unit u) ≡ true → IsSoundRow c.kind r → All (MayBeKept c.kind) r.fields → KeepsAll (may_see v c) r
     seen_row r at is kept = λ k e l. seen_field r (unit_same r.unit u at) (get_or r.fields k e) (is.own k e l) (kept k e l)
@@ -129,11 +130,19 @@ module _ (v : Viewer) where
     control_after =
         control_rests v.policy us changed moment a b x y one two three four kinds_before (ap (λ (t : Traits). t.control) same) agree first second
 
+    rules_after : pattern_rules v.policy v.client x ≡ pattern_rules v.policy v.client y
+    rules_after = fun_ext (λ (l : Leaf). patterns_same v.policy v.client x y l kinds_after control_after)
+
     pub access_after : access_of v x ≡ access_of v y
     access_after =
         let same_decision : (op : Op) → decide v.policy v.client op x ≡ decide v.policy v.client op y
         = λ op. fun_ext (λ (l : Leaf). decide_same v.policy v.client op x y l kinds_after control_after) in
-        λ i. record { read = same_decision Read i; modify = same_decision Modify i; delete = same_decision Delete i }
+        λ i. record {
+          read = same_decision Read i;
+          patterns = λ l. decisions_of (rules_after i l);
+          modify = same_decision Modify i;
+          delete = same_decision Delete i;
+        }
 
     -- what was seen before is the same
     rows_after : restricted (may_see v a) (rows x) ≡ restricted (may_see v a) (rows y)
@@ -141,31 +150,21 @@ module _ (v : Viewer) where
         kept_same us changed moment a b x y agree first second three four kinds_after (may_see v a)
         (ap (λ (t : Traits). t.rows) same ∙ ap (λ keep. restricted keep (rows b)) (sym (may_see_same v a b same)))
 
-    -- where nothing is opened, a leaf of the kind that is seen afterwards was seen before
-    narrow_leaf : widening x.kind (access_of v a) (access_of v x) ≡ None → (l : Leaf) → HasLeaf x.kind l → sees_leaf v x l ≡ true → sees_leaf v a l ≡ true
-    narrow_leaf nothing l there now =
-        let parts = and_parts (not (is_write_only x.kind l)) (read_decision v x l).allow now in
-        let reads : (read_decision v a l).allow ≡ true = not_wider x.kind (access_of v a) (access_of v x) nothing l there parts.1 in
-        ap₂ ◌&&◌ (ap (λ (k : Kind). not (is_write_only k l)) (sym first.kind) ∙ parts.0) reads
-
-    -- so a field is seen afterwards exactly if it would be seen before, and its leaf is seen afterwards
-    narrow_at : widening x.kind (access_of v a) (access_of v x) ≡ None → (r : Row) (l : Leaf) → HasLeaf x.kind l → may_see v x r l ≡ (may_see v a r l && sees_leaf v x l)
-    narrow_at nothing r l there = elim (cases_Bool (sees_leaf v x l)) [
-      | inl now ↦ rw (now, narrow_leaf nothing l there now) refl
-      | inr hidden ↦ hidden ∙ sym (and_right (may_see v a r l) (sees_leaf v x l) hidden)
-    ]
+    -- where nothing is opened, a field is seen afterwards exactly if it would be seen before, and its leaf is seen in some value afterwards
+    narrow_at : widening x.kind (access_of v a) (access_of v x) ≡ None → (r : Row) (l : Leaf) → HasLeaf x.kind l → may_see v x r l ≡ (may_see v a r l && sees_some v x l)
+    narrow_at nothing r l there = narrowed v a x first.kind nothing l there r
 
     narrow_rows : widening x.kind (access_of v a) (access_of v x) ≡ None → (k : Kind) → x.kind ≡ k → (rs : List Row) → All (IsSoundRow k) rs
-        → All (AreAlike (may_see v x) (λ r l. may_see v a r l && sees_leaf v x l)) rs
+        → All (AreAlike (may_see v x) (λ r l. may_see v a r l && sees_some v x l)) rs
     narrow_rows nothing k kinds rs own =
         λ i e l j f m. narrow_at nothing (get_or rs i e) (get_or (get_or rs i e).fields j f).leaf (subst (λ (kind : Kind). HasLeaf kind (get_or (get_or rs i e).fields j f).leaf) (sym kinds) ((own i e l).own j f m).1)
 
     pub traits_after : widening x.kind (access_of v a) (access_of v x) ≡ None → traits v x ≡ traits v y
     traits_after nothing =
-        let may : may_see v x ≡ may_see v y = λ i. may_be_seen (access_after i).read (kinds_after i) in
+        let may : may_see v x ≡ may_see v y = λ i. may_be_seen (reading_same v x y rules_after i) (kinds_after i) in
         let rows_now : restricted (may_see v x) (rows x) ≡ restricted (may_see v y) (rows y)
-        = restricted_narrower (may_see v a) (may_see v x) (sees_leaf v x) (rows x) (narrow_rows nothing x.kind refl (rows x) (sound_part x three.part).own)
-        ∙ ap (restricted (by_leaf (sees_leaf v x))) rows_after
-        ∙ sym (restricted_narrower (may_see v a) (may_see v x) (sees_leaf v x) (rows y) (narrow_rows nothing y.kind kinds_after (rows y) (sound_part y four.part).own))
+        = restricted_narrower (may_see v a) (may_see v x) (sees_some v x) (rows x) (narrow_rows nothing x.kind refl (rows x) (sound_part x three.part).own)
+        ∙ ap (restricted (by_leaf (sees_some v x))) rows_after
+        ∙ sym (restricted_narrower (may_see v a) (may_see v x) (sees_some v x) (rows y) (narrow_rows nothing y.kind kinds_after (rows y) (sound_part y four.part).own))
         ∙ ap (λ keep. restricted keep (rows y)) may in
         λ i. record { kind = kinds_after i; id = ids_after i; rows = rows_now i; control = control_after i }

@@ -28,8 +28,10 @@ use Rattle.scim_policy.specs.declared.rules.Decision.{Decision}
 use Rattle.scim_policy.specs.Decide.{decide}
 use Rattle.scim_policy.specs.Access.{access}
 use Rattle.scim_policy.specs.Control.{control}
-use Rattle.scim_policy.proofs.Facts.{decide_same}
-use Rattle.scim_view.specs.View.{Viewer, read_decision, may_be_seen, sees, visible, visible_by}
+use Rattle.scim_policy.specs.Patterns.{PatternRule, decide_in, decided_for, decisions_of, pattern_rules}
+use Rattle.scim_policy.proofs.Facts.{decide_same, patterns_same}
+use Rattle.scim_filter.specs.Truth.{truth_in_value}
+use Rattle.scim_view.specs.View.{Viewer, read_in, may_be_seen, sees, visible, visible_by}
 use Rattle.scim_view.specs.Groups.{seen, memberships, visible_with, with_groups, views}
 use Rattle.scim_shelf.specs.Stores.{AreKeyed, is_at, below, above, keep, without}
 use Rattle.scim_search.proofs.Facts.{filter_swap, none_at, made_map, made_views}
@@ -44,7 +46,7 @@ pub record Traits : Type 0 where
   pub control : List Row
 
 abbrev pub may_see : Viewer → Content → Test
-may_see v c = may_be_seen (read_decision v c) c.kind
+may_see v c = may_be_seen (read_in v c) c.kind
 
 abbrev pub traits : Viewer → Content → Traits
 traits v c = record { kind = c.kind; id = c.id; rows = restricted (may_see v c) (rows c); control = control v.policy c }
@@ -99,11 +101,23 @@ module _ (v : Viewer) where
   unfolding sees
   sees_same a b e = ap (λ (d : Leaf → Decision). (d (simple Id)).allow) (decision_same Read a b e)
 
+  pub rules_same : (a b : Content) → traits v a ≡ traits v b → pattern_rules v.policy v.client a ≡ pattern_rules v.policy v.client b
+  rules_same a b e = fun_ext (λ (l : Leaf). patterns_same v.policy v.client a b l (ap (λ (t : Traits). t.kind) e) (ap (λ (t : Traits). t.control) e))
+
+  pub reading_same : (a b : Content) → pattern_rules v.policy v.client a ≡ pattern_rules v.policy v.client b → read_in v a ≡ read_in v b
+  unfolding decide_in
+  reading_same a b e = λ i r l. decided_for (λ t. truth_in_value t r) (e i l)
+
   pub may_see_same : (a b : Content) → traits v a ≡ traits v b → may_see v a ≡ may_see v b
-  may_see_same a b e = λ i. may_be_seen (decision_same Read a b e i) (e i).kind
+  may_see_same a b e = λ i. may_be_seen (reading_same a b (rules_same a b e) i) (e i).kind
 
   pub access_same : (a b : Content) → traits v a ≡ traits v b → access v.policy v.client a ≡ access v.policy v.client b
-  access_same a b e = λ i. record { read = decision_same Read a b e i; modify = decision_same Modify a b e i; delete = decision_same Delete a b e i }
+  access_same a b e = λ i. record {
+    read = decision_same Read a b e i;
+    patterns = λ l. decisions_of (rules_same a b e i l);
+    modify = decision_same Modify a b e i;
+    delete = decision_same Delete a b e i;
+  }
 
   -- what is visible, by the traits
   abbrev visible_of : Traits → Content

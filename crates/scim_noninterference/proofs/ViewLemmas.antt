@@ -24,7 +24,7 @@ use Rattle.scim_value.proofs.Facts.{part_content, put_sound, restricted_sound, r
 use Rattle.scim_change.proofs.Facts.{values_stay}
 use Rattle.scim_patch_steps.proofs.Facts.{same_content}
 use Rattle.scim_policy.proofs.Facts.{kept_rows}
-use Rattle.scim_view.specs.View.{Viewer, read_decision, sees, visible, visible_by}
+use Rattle.scim_view.specs.View.{Viewer, read_in, sees, visible, visible_by}
 use Rattle.scim_view.specs.Groups.{seen, memberships, rows_with, visible_with, with_groups}
 use Rattle.scim_view.proofs.Facts.{attributes_alike}
 use Rattle.scim_noninterference.specs.Alike.{whole_view}
@@ -117,7 +117,7 @@ module _ (v : Viewer) where
       | inr n ↦ rw n refl
     ]
 
-    bare_visible : values u (rows (visible_with (read_decision v c) [] c)) ≡ values u (rows (visible v c))
+    bare_visible : values u (rows (visible_with (read_in v c) [] c)) ≡ values u (rows (visible v c))
     unfolding visible_with
     bare_visible =
         ap (values u) (rows_content c.kind c.id (restricted (may_see v c) (rows_with [] c)) (restricted_sound c.kind (may_see v c) (rows_with [] c) bare_sound))
@@ -128,7 +128,7 @@ module _ (v : Viewer) where
     beside : (gs : List Content) → values u (rows (with_groups v gs c)) ≡ values u (rows (visible v c))
     unfolding with_groups
     beside gs =
-        let d = read_decision v c in
+        let d = read_in v c in
         let none : list_any (sameb the_attribute Groups) (u.attribute ∷ []) ≡ false = rw other refl in
         let some = attributes_alike (u.attribute ∷ []) d v.base (seen v gs) c is.part none in
         let bare = attributes_alike (u.attribute ∷ []) d v.base [] c is.part none in

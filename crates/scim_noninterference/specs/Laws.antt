@@ -49,7 +49,7 @@ abbrev pub TurnsLeaveStores : Type 0
 TurnsLeaveStores = (policy : List Rule) (base : List ℕ) (turn : Turn) (store : Store) → IsStore base store → IsTurn turn → IsStore base (next_store policy base turn store)
 
 -- A change of a resource is quiet for a viewer if it affects only cells that the viewer may not read, that no
--- target of the policy names, and whose values needn't be unique.
+-- target of the policy names, that no value filter of the policy is on, and whose values needn't be unique.
 abbrev pub HiddenCellsAreQuiet : Type 0
 HiddenCellsAreQuiet =
     (v : Viewer) (before after : List Content) (old new : Content)

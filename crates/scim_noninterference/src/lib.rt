@@ -36,9 +36,9 @@ pub fn turns_leave_stores()
     ensures { TurnsLeaveStores }
 {}
 
-/// Law: a change of a resource is quiet for a client if each changed cell meets three conditions: the client
-/// may not read the cell's leaf in the old resource, no target of the policy names the cell's attribute, and
-/// the values of the attribute needn't be unique.
+/// Law: a change of a resource is quiet for a client if each changed cell meets four conditions: the client
+/// may not read the cell's leaf in the old resource, no target of the policy names the cell's attribute, no
+/// value filter of the policy is on the attribute, and the values of the attribute needn't be unique.
 pub fn hidden_cells_are_quiet()
     ensures { HiddenCellsAreQuiet }
 {}
