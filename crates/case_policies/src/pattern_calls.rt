@@ -25,7 +25,7 @@ static CALLS: [(&str, PatternCall); 5] = [
     ("pattern", PatternCall::Pattern),
     ("decide_at", PatternCall::DecideAt),
     ("whole_decision", PatternCall::Whole),
-    ("view_in_values", PatternCall::View),
+    ("view_by_rules", PatternCall::View),
     ("first_opened", PatternCall::Opened),
 ];
 
@@ -103,7 +103,7 @@ fn whole_text(case: &Case<'_>, policy: &Policy, resource: &Resource) -> Result<S
 /// Returns the cells that the client sees, or `unseen`.
 fn view_text(case: &Case<'_>, policy: &Policy, resource: &Resource) -> Result<String, CaseFault> {
     let viewer = viewer(case, policy)?;
-    seen_text(case.alloc, viewer.view_in_values(case.alloc, resource)?)
+    seen_text(case.alloc, viewer.view(case.alloc, resource)?)
 }
 
 /// Returns the first leaf on which a change of the policy into that of the argument `then` opens reading, and the
@@ -136,8 +136,8 @@ fn opening_text(alloc: Global, leaf: Leaf, decision: Decision) -> Result<String,
     Ok(text)
 }
 
-/// Returns the policy with the rules in the list `name`. They are for all clients and for users, since no policy
-/// file can hold value filters.
+/// Returns the policy with the rules in the list `name`. They are for all clients and for users, and may have paths
+/// that no policy file can hold, as a value filter on `groups`.
 fn policy_of(case: &Case<'_>, name: &'static str) -> Result<Policy, CaseFault> {
     let mut rules = Vec::new(case.alloc);
     for item in case.list(name) {

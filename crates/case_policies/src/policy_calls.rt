@@ -2,9 +2,10 @@
 use case_values::{
     Case, CaseFault, between, debugged, file_text, named, policy_text, push_all, said, shown, truth,
 };
-use scim_policy::{ClientName, Decision, Decisions, Misfit, Policy, Rule, Target};
+use scim_policy::{ClientName, Decision, Decisions, Misfit, Patterns, Policy, Rule, Target};
 use scim_policy_file::{is_client_name, read_policy};
 use scim_samples::read_leaf;
+use scim_schema::Op;
 use scim_value::Resource;
 use std::alloc::Global;
 
@@ -216,6 +217,10 @@ fn decisions_of(
     resource: &Resource,
 ) -> Result<String, CaseFault> {
     let client = case.text("client")?;
+    if case.op() == Op::Read {
+        let patterns = policy.patterns(case.alloc, client, resource)?;
+        return wholes_text(case, &patterns);
+    }
     let decisions = policy.decisions(case.alloc, client, case.op(), resource)?;
     decisions_text(case, &decisions)
 }
@@ -227,6 +232,18 @@ fn decisions_text(case: &Case<'_>, decisions: &Decisions) -> Result<String, Case
             return Err(CaseFault::Missing("leaves"));
         };
         push_decision(case.alloc, decisions.of(read_leaf(path)?), &mut text)?;
+    }
+    Ok(text)
+}
+
+/// Returns the decisions on reading the leaves in the list `leaves` in all values, separated by `; `.
+fn wholes_text(case: &Case<'_>, patterns: &Patterns<'_>) -> Result<String, CaseFault> {
+    let mut text = String::new(case.alloc);
+    for path in case.list("leaves") {
+        let Some(path) = path.as_str() else {
+            return Err(CaseFault::Missing("leaves"));
+        };
+        push_decision(case.alloc, patterns.whole(read_leaf(path)?), &mut text)?;
     }
     Ok(text)
 }
