@@ -13,7 +13,7 @@ from measuring import Bench
 from slapd import slapd
 
 TOP = os.path.dirname(os.path.dirname(os.path.abspath(__file__)))
-SCENARIOS = [scenarios.users, scenarios.members, scenarios.rules, scenarios.cache, scenarios.memory, scenarios.start,
+SCENARIOS = [scenarios.users, scenarios.members, scenarios.rules, scenarios.values, scenarios.cache, scenarios.memory, scenarios.start,
              scenarios.replay, scenarios.bodies, slapd]
 
 

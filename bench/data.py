@@ -62,6 +62,14 @@ def policy(rules=1, form="other client"):
     return json.dumps({"version": 1, "rules": made})
 
 
+def policy_with_filters(count):
+    """A policy that lets the client `hr` do everything, behind rules that hide values of emails that nobody has."""
+    made = [{"allow": False, "clients": ["hr"], "ops": ["read"], "types": ["User"],
+             "paths": [f'emails[type eq "kind{number}"]']} for number in range(count)]
+    made.append(rule(True, "hr", ["read", "create", "modify", "delete"], "*"))
+    return json.dumps({"version": 2, "rules": made})
+
+
 def request(method, target, body=None):
     """The bytes of a request by `hr`."""
     head = f"{method} {target} HTTP/1.1\r\nHost: localhost\r\nAuthorization: Bearer abc\r\n"
@@ -121,3 +129,8 @@ def sorted_page(_server, _number):
 def unindexed(_server, _number):
     """A search that goes over all users, and finds ten."""
     return search("Users", 'title co "x"')
+
+
+def by_email(_server, _number):
+    """A search that goes over all users by an attribute that value filters may be on, and finds none."""
+    return search("Users", 'emails.value co "@home"')

@@ -17,6 +17,7 @@ CREATE = Ask("create", data.create, 10, 201)
 PAGE = Ask("page of 100 with groups", data.page, 5)
 SORTED = Ask("sorted page of 100 with groups", data.sorted_page, 2)
 UNINDEXED = Ask("unindexed filter", data.unindexed, 2)
+BY_EMAIL = Ask("unindexed filter of emails", data.by_email, 2)
 BOTH = (("", []), (", no cache", ["--no-cache"]))
 
 
@@ -63,6 +64,17 @@ def rules(bench):
             servers = [stack.enter_context(bench.server((bench.sizes[1], 1), policy=data.policy(count, form)))
                        for count in (10, 1_000)]
             add_rows(bench, table, servers, [GET, PUT, PAGE, UNINDEXED], form + ": ")
+    return table
+
+
+def values(bench):
+    """rules for reading with a value filter on emails: none, one and ten, before the rule that allows all"""
+    counts = [0, 1, 10]
+    table = Table("values: processor ms a request, by the rules with a value filter", counts, [(1, 0), (2, 0)])
+    with ExitStack() as stack:
+        servers = [stack.enter_context(bench.server((bench.sizes[1], 1), policy=data.policy_with_filters(count)))
+                   for count in counts]
+        add_rows(bench, table, servers, [GET, BY_NAME, PAGE, UNINDEXED, BY_EMAIL])
     return table
 
 
