@@ -1,9 +1,9 @@
 -- The resource that a request names, if its client sees it, as the code reads it.
 use Rattle.std.specs.Prelude.{◌≡◌, ⊤, true, List, Some}
 use Rattle.scim_schema.specs.declared.Attribute.TheVariants.{Id}
+use Rattle.scim_schema.specs.declared.Leaf.{Leaf}
 use Rattle.scim_schema.specs.Units.{simple}
 use Rattle.scim_cell.specs.Content.{Content}
-use Rattle.scim_schema.specs.declared.Leaf.{Leaf}
 use Rattle.scim_policy.specs.declared.access_rights.Rights.{Rights}
 use Rattle.scim_policy.specs.PatternTable.{access_in, reading_rules_in}
 use Rattle.scim_view.specs.View.{Viewer, read_decision, read_rules}

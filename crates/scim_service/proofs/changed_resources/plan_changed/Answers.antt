@@ -4,8 +4,7 @@ use Rattle.scim_schema.specs.declared.Leaf.{Leaf}
 use Rattle.scim_schema.specs.declared.Attribute.TheVariants.{Id}
 use Rattle.scim_schema.specs.Units.{simple}
 use Rattle.scim_policy.specs.declared.rules.Decision.{Decision}
-use Rattle.scim_policy.specs.PatternTable.{access_in}
-use Rattle.scim_policy.specs.PatternTable.{rules_in}
+use Rattle.scim_policy.specs.PatternTable.{access_in, rules_in}
 use Rattle.scim_policy.specs.Patterns.{PatternRule, decisions_of, whole_decision}
 use Rattle.scim_view.specs.View.{viewer_of}
 use Rattle.scim_service.specs.declared.plans.Plan.{Plan}

@@ -1,8 +1,6 @@
 use Rattle.std.proofs.Common.{◌∙◌, refl}
 use Rattle.std.specs.Prelude.{Some}
-use Rattle.scim_schema.specs.declared.Attribute.TheVariants.{Id}
-use Rattle.scim_schema.specs.Units.{simple}
-use Rattle.scim_view.specs.View.{viewer_of, read_decision}
+use Rattle.scim_view.specs.View.{viewer_of}
 use Rattle.scim_service.specs.Step.{get_plan}
 use Rattle.scim_service.proofs.PlanLemmas.{got_is, id_read}
 use Rattle.scim_service.proofs.ReplaceLemmas.{hidden_is}
