@@ -2,10 +2,9 @@
 use Rattle.std.proofs.Common.{◌≡◌, ◌<◌, ◌⊎◌, refl, sym, ◌∙◌, ap, ap₂, subst, ℕ, zero, suc, Bool, true, false, List, [], ◌∷◌, map, filter, inl, inr, arith, if◌then◌else◌}
 use Rattle.std.specs.Prelude.{All, AllPairs, Option, None, Some, not, ◌&&◌, ◌||◌}
 use Rattle.std.specs.List.{list_any}
-use Rattle.std.specs.Option.{option_eq}
 use Rattle.std.specs.Ordering.{is_eq}
 use denote.Enum.Bare.{sameb}
-use Rattle.std.proofs.lemmas.Bool.{cases_Bool, and_parts}
+use Rattle.std.proofs.lemmas.Bool.{cases_Bool, and_parts, or_parts}
 use Rattle.std.proofs.lemmas.List.Elements.{All-head, All-tail, All-nil, All-filter, All-weaker}
 use Rattle.std.proofs.lemmas.List.Kept.{AllPairs-filter}
 use mathlib.Core.Path.{fun_ext}
@@ -30,13 +29,13 @@ use Rattle.scim_value.specs.Resource.{IsResource}
 use Rattle.scim_value.proofs.Facts.{sound_part}
 use Rattle.scim_policy.specs.Control.{control, is_named_in, is_unique}
 use Rattle.scim_policy.specs.declared.rules.Decision.{Decision}
-use Rattle.scim_policy.specs.Fits.{attribute_before, covers_in_part, covers_partly, filtered_on}
+use Rattle.scim_policy.specs.Fits.{covers_in_part, covers_partly, filtered_on}
 use Rattle.scim_policy.specs.Patterns.{decide_in, decided_for, pattern_rules}
 use Rattle.scim_policy.specs.Rules.{FilteredPath, KindPaths, Rule}
 use Rattle.scim_policy.proofs.Facts.{patterns_same, undivided_pattern}
 use Rattle.scim_view.specs.View.{Viewer, may_read, may_be_seen, visible, visible_by}
 use Rattle.scim_change.proofs.Facts.{values_fit}
-use Rattle.scim_noninterference.specs.Cells.{IsHiddenAt, has_value_filter}
+use Rattle.scim_noninterference.specs.Cells.{IsHiddenAt, has_filter_on, has_value_filter, is_filter_on}
 use Rattle.scim_noninterference.specs.Laws.{HiddenCellsAreQuiet}
 use Rattle.scim_noninterference.proofs.UnitLemmas.{same_restricted, attributes_same}
 use Rattle.scim_noninterference.proofs.RowLemmas.{restricted_kept}
@@ -249,46 +248,40 @@ cell_by_leaf keep l b same k rs ss stays = atom_by_leaf keep l b same k (values 
 abbrev sees_leaf : Viewer → Content → Leaf → Bool
 sees_leaf v c l = not (is_write_only c.kind l) && may_read v c l
 
-neither : (a b : Bool) → a || b ≡ false → (a ≡ false) × (b ≡ false)
-neither true b e = cc
-neither false b e = (refl, e)
-
-none_before : (l : Leaf) (fs : List FilteredPath) → list_any (λ (f : FilteredPath). option_eq is_same_attribute (attribute_before f.tree) (Some l.attribute)) fs ≡ false
-    → list_any (covers_in_part l) fs ≡ false
-none_before l [] none = refl
-none_before l (f ∷ fs) none =
-    let parts = neither (option_eq is_same_attribute (attribute_before f.tree) (Some l.attribute)) _ none in
+-- no path covers the leaf at some values
+none_covers : (l : Leaf) (fs : List FilteredPath) → list_any (is_filter_on l.attribute) fs ≡ false → list_any (covers_in_part l) fs ≡ false
+none_covers l [] none = refl
+none_covers l (f ∷ fs) none =
+    let parts = or_parts (is_filter_on l.attribute f) (list_any (is_filter_on l.attribute) fs) none in
     elim (cases_Bool (is_multi_valued l.attribute)) [
-      | inr single ↦ rw single (none_before l fs parts.1)
+      | inr single ↦ rw single (none_covers l fs parts.1)
       | inl multi ↦ elim (cases_Bool (is_same_attribute l.attribute Groups)) [
-        | inl own ↦ rw (multi, own) (none_before l fs parts.1)
-        | inr other ↦ rw (multi, other, parts.0) (none_before l fs parts.1)
+        | inl own ↦ rw (multi, own) (none_covers l fs parts.1)
+        | inr other ↦ rw (multi, other, parts.0) (none_covers l fs parts.1)
       ]
     ]
 
-none_of_kind : (kind : Kind) (l : Leaf) (ps : List KindPaths)
-    → list_any (λ (p : KindPaths). list_any (λ (f : FilteredPath). option_eq is_same_attribute (attribute_before f.tree) (Some l.attribute)) p.filtered) ps ≡ false
-    → list_any (covers_in_part l) (filtered_on kind ps) ≡ false
-none_of_kind kind l [] none = refl
-none_of_kind kind l (p ∷ ps) none =
-    let parts = neither (list_any (λ (f : FilteredPath). option_eq is_same_attribute (attribute_before f.tree) (Some l.attribute)) p.filtered) _ none in
+none_for_kind : (kind : Kind) (l : Leaf) (ps : List KindPaths) → has_filter_on l.attribute ps ≡ false → list_any (covers_in_part l) (filtered_on kind ps) ≡ false
+none_for_kind kind l [] none = refl
+none_for_kind kind l (p ∷ ps) none =
+    let parts = or_parts (list_any (is_filter_on l.attribute) p.filtered) (has_filter_on l.attribute ps) none in
     elim (cases_Bool (sameb the_kind kind p.kind)) [
-      | inl own ↦ rw own (none_before l p.filtered parts.0)
-      | inr other ↦ rw other (none_of_kind kind l ps parts.1)
+      | inl own ↦ rw own (none_covers l p.filtered parts.0)
+      | inr other ↦ rw other (none_for_kind kind l ps parts.1)
     ]
 
-none_in_part : (c : Content) (l : Leaf) (rs : List Rule) → has_value_filter rs l.attribute ≡ false → list_any (covers_partly Read c l) rs ≡ false
-none_in_part c l [] none = refl
-none_in_part c l (r ∷ rs) none =
-    let parts = neither (list_any (λ (p : KindPaths). list_any (λ (f : FilteredPath). option_eq is_same_attribute (attribute_before f.tree) (Some l.attribute)) p.filtered) r.paths) _ none in
-    rw (none_of_kind c.kind l r.paths parts.0) (none_in_part c l rs parts.1)
+none_partly : (c : Content) (l : Leaf) (rs : List Rule) → has_value_filter rs l.attribute ≡ false → list_any (covers_partly Read c l) rs ≡ false
+none_partly c l [] none = refl
+none_partly c l (r ∷ rs) none =
+    let parts = or_parts (has_filter_on l.attribute r.paths) (has_value_filter rs l.attribute) none in
+    rw (none_for_kind c.kind l r.paths parts.0) (none_partly c l rs parts.1)
 
 -- it is read in each value, or in none
 sees_alike : (v : Viewer) (c : Content) (l : Leaf) → has_value_filter v.policy l.attribute ≡ false → (r : Row) → may_see v c r l ≡ sees_leaf v c l
 unfolding decide_in
 sees_alike v c l none r =
     ap (λ (d : Decision). not (is_write_only c.kind l) && d.allow)
-    (ap (decided_for (λ t. truth_in_value t r)) (undivided_pattern v.policy v.client c l (none_in_part c l v.policy none)))
+    (ap (decided_for (λ t. truth_in_value t r)) (undivided_pattern v.policy v.client c l (none_partly c l v.policy none)))
 
 module _ (v : Viewer) (old new : Content) (one : IsResource old) (two : IsResource new) (kinds : old.kind ≡ new.kind) (ids : old.id ≡ new.id)
     (hidden : (l : Leaf) (k : ℕ) → IsHiddenAt v old new l k) where

@@ -28,7 +28,7 @@ use Rattle.scim_policy.specs.declared.rules.Decision.{Decision}
 use Rattle.scim_policy.specs.Decide.{decide}
 use Rattle.scim_policy.specs.Access.{access}
 use Rattle.scim_policy.specs.Control.{control}
-use Rattle.scim_policy.specs.Patterns.{PatternRule, decide_in, decided_for, decisions_of, pattern_rules}
+use Rattle.scim_policy.specs.Patterns.{decide_in, decided_for, decisions_of, pattern_rules}
 use Rattle.scim_policy.proofs.Facts.{decide_same, patterns_same}
 use Rattle.scim_filter.specs.Truth.{truth_in_value}
 use Rattle.scim_view.specs.View.{Viewer, read_in, may_be_seen, sees, visible, visible_by}
