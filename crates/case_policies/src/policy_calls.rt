@@ -217,11 +217,12 @@ fn decisions_of(
     resource: &Resource,
 ) -> Result<String, CaseFault> {
     let client = case.text("client")?;
-    if case.op() == Op::Read {
+    let op = case.op();
+    if op == Op::Read {
         let patterns = policy.patterns(case.alloc, client, resource)?;
         return wholes_text(case, &patterns);
     }
-    let decisions = policy.decisions(case.alloc, client, case.op(), resource)?;
+    let decisions = policy.decisions(case.alloc, client, op, resource)?;
     decisions_text(case, &decisions)
 }
 
