@@ -31,7 +31,7 @@ of_one g (Some x) = as_list (g x)
 texts_more : (texts : List (Bor (List ℕ))) (i : ℕ) (d : Bor (List ℕ)) → i < length texts → map text_at (take (i + 1) texts) ≡ map text_at (take i texts) ++ text_at (get_or texts i d) ∷ []
 texts_more texts i d less = ap (map text_at) (take_more texts i d less) ∙ map-append text_at (take i texts) (get_or texts i d ∷ [])
 
--- what is left of what one element more gives
+-- two filters one after the other, over a list with one element more
 pub given_more : {X Y Z : Type 0} (f : X → Option Y) (g : Y → Option Z) (xs : List X) (x : X) → filter_map g (filter_map f (xs ++ x ∷ [])) ≡ filter_map g (filter_map f xs) ++ option_to_list (option_and_then g (f x))
 given_more f g xs x =
     ap (filter_map g) (filter_map-append f xs (x ∷ []))

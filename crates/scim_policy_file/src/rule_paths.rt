@@ -246,7 +246,8 @@ fn fault_at(columns: &[Vec<Standing>], place: usize) -> Option<Cause>
 
 /// The fault of the first faulty entry, from what each entry is on each of the kinds.
 fn first_fault(columns: &[Vec<Standing>], texts: &[&str]) -> Option<Cause>
-    ensures { result ≡ first_of (faults_from 0 (map (λ c. c.items) columns.now) (map text_at texts.now)) }
+    ensures { result ≡ first_of (faults_from 0 (map (λ c. c.items) columns.now)
+        (map text_at texts.now)) }
 {
     let mut place = 0;
     for _text in texts {
