@@ -2,7 +2,7 @@
 use Rattle.std.proofs.Common.{refl}
 use Rattle.scim_schema.specs.declared.Kind.TheVariants.{User, Group}
 use Rattle.scim_schema.specs.declared.Attribute.TheVariants.{Name, Emails, PhoneNumbers, Ims, Photos, Addresses, Groups, Entitlements, Roles, X509Certificates, Manager, Members, Meta}
-use Rattle.scim_schema.specs.declared.schema_urns.Schema.TheVariants.{User as UserSchema, Group as GroupSchema, EnterpriseUser}
+use Rattle.scim_schema.specs.declared.schema_urns.Schema.TheVariants.{User as UserSchema, Group as GroupSchema, EnterpriseUser, SiteUser}
 use Rattle.scim_schema.specs.declared.json_keys.JsonForm.TheVariants.{Shown, Stored}
 use Rattle.scim_schema.specs.JsonKeys.{PartKeysAscend, ExtensionKeysAscend, SubAttributesAscend, AttributesHaveKeys, SubAttributesHaveKeys, schemas_name, keys, extension_keys, ordered_sub_attributes}
 
@@ -16,6 +16,7 @@ part_keys Stored Group = refl
 pub extension_attributes : ExtensionKeysAscend
 unfolding extension_keys
 extension_attributes EnterpriseUser = refl
+extension_attributes SiteUser = refl
 extension_attributes UserSchema = refl
 extension_attributes GroupSchema = refl
 

@@ -4,13 +4,13 @@ use Rattle.scim_schema.specs.declared.Kind.{Kind}
 use Rattle.scim_schema.specs.declared.Kind.TheVariants.{User, Group}
 use Rattle.scim_schema.specs.declared.Leaf.{Leaf}
 use Rattle.scim_schema.specs.declared.Attribute.{Attribute}
-use Rattle.scim_schema.specs.declared.Attribute.TheVariants.{Id, ExternalId, UserName, Name, DisplayName, ProfileUrl, Active, Password, Emails, PhoneNumbers, Ims, Photos, Addresses, Groups, Entitlements, Roles, X509Certificates, Manager, Members, Meta}
+use Rattle.scim_schema.specs.declared.Attribute.TheVariants.{Id, ExternalId, UserName, Name, DisplayName, ProfileUrl, Active, Password, Emails, PhoneNumbers, Ims, Photos, Addresses, Groups, Entitlements, Roles, X509Certificates, Manager, Badge, Note, DoorCode, Members, Meta}
 use Rattle.scim_schema.specs.declared.SubAttribute.{SubAttribute}
 use Rattle.scim_schema.specs.declared.SubAttribute.TheVariants.{Value, Reference, Primary, DisplayName as SubDisplayName, ResourceType, Created, LastModified, Location}
 use Rattle.scim_schema.specs.declared.characteristics.Characteristics.{Characteristics}
 use Rattle.scim_schema.specs.declared.characteristics.AttributeType.TheVariants.{String, Boolean, DateTime, Reference as ReferenceType, Binary, Complex}
 use Rattle.scim_schema.specs.declared.characteristics.Mutability.TheVariants.{ReadOnly, ReadWrite, Immutable, WriteOnly}
-use Rattle.scim_schema.specs.declared.characteristics.Returned.TheVariants.{Always, Never, Default}
+use Rattle.scim_schema.specs.declared.characteristics.Returned.TheVariants.{Always, Never, Default, Request}
 use Rattle.scim_schema.specs.declared.characteristics.Uniqueness.TheVariants.{NotUnique, Server}
 
 -- the default characteristics (RFC 7643 section 2.2)
@@ -57,7 +57,12 @@ boolean = record plain { attribute_type = Boolean }
 abbrev pub date_time : Characteristics
 date_time = record plain { attribute_type = DateTime }
 
--- the characteristics of an attribute of a kind (RFC 7643 sections 3.1, 4.1, 4.2, 4.3 and 7)
+-- the characteristics of a string that no client may read, and whose case matters (RFC 7643 section 7)
+abbrev pub write_only : Characteristics
+write_only = record case_exact { mutability = WriteOnly; returned = Never }
+
+-- the characteristics of an attribute of a kind (RFC 7643 sections 3.1, 4.1, 4.2, 4.3 and 7, and the site
+-- extension)
 abbrev pub attribute_characteristics : Kind → Attribute → Characteristics
 attribute_characteristics _ Id = record case_exact { mutability = ReadOnly; returned = Always }
 attribute_characteristics _ ExternalId = case_exact
@@ -65,9 +70,12 @@ attribute_characteristics _ UserName = record plain { required = true; uniquenes
 attribute_characteristics Group DisplayName = required plain
 attribute_characteristics _ ProfileUrl = reference
 attribute_characteristics _ Active = boolean
-attribute_characteristics _ Password = record case_exact { mutability = WriteOnly; returned = Never }
+attribute_characteristics _ Password = write_only
 attribute_characteristics _ Name = complex
 attribute_characteristics _ Manager = complex
+attribute_characteristics _ Badge = record case_exact { uniqueness = Server }
+attribute_characteristics _ Note = record plain { returned = Request }
+attribute_characteristics _ DoorCode = write_only
 attribute_characteristics _ Meta = read_only complex
 attribute_characteristics _ Groups = read_only multi_valued
 attribute_characteristics _ Emails = multi_valued

@@ -8,11 +8,11 @@ use denote.Enum.Bare.{sameb}
 use Rattle.scim_schema.specs.declared.Kind.{Kind}
 use Rattle.scim_schema.specs.declared.Kind.TheVariants.{User, Group}
 use Rattle.scim_schema.specs.declared.Attribute.{Attribute}
-use Rattle.scim_schema.specs.declared.Attribute.TheVariants.{Id, ExternalId, UserName, Name, DisplayName, NickName, ProfileUrl, Title, UserType, PreferredLanguage, Locale, Timezone, Active, Password, Emails, PhoneNumbers, Ims, Photos, Addresses, Groups, Entitlements, Roles, X509Certificates, EmployeeNumber, CostCenter, Organization, Division, Department, Manager, Members, Meta}
+use Rattle.scim_schema.specs.declared.Attribute.TheVariants.{Id, ExternalId, UserName, Name, DisplayName, NickName, ProfileUrl, Title, UserType, PreferredLanguage, Locale, Timezone, Active, Password, Emails, PhoneNumbers, Ims, Photos, Addresses, Groups, Entitlements, Roles, X509Certificates, EmployeeNumber, CostCenter, Organization, Division, Department, Manager, Badge, Note, DoorCode, Members, Meta}
 use Rattle.scim_schema.specs.declared.SubAttribute.{SubAttribute}
 use Rattle.scim_schema.specs.declared.SubAttribute.TheVariants.{Formatted, FamilyName, GivenName, MiddleName, HonorificPrefix, HonorificSuffix, Value, Reference, Display, TypeName, Primary, StreetAddress, Locality, Region, PostalCode, Country, DisplayName as SubDisplayName, ResourceType, Created, LastModified, Location}
 use Rattle.scim_schema.specs.declared.schema_urns.Schema.{Schema}
-use Rattle.scim_schema.specs.declared.schema_urns.Schema.TheVariants.{EnterpriseUser}
+use Rattle.scim_schema.specs.declared.schema_urns.Schema.TheVariants.{EnterpriseUser, SiteUser}
 use Rattle.scim_schema.specs.declared.characteristics.Characteristics.{Characteristics}
 use Rattle.scim_schema.specs.declared.characteristics.AttributeType.TheVariants.{Complex as ComplexType}
 use Rattle.scim_schema.specs.contracts.characteristics.AttributeType.{the_type as the_attribute_type}
@@ -43,7 +43,7 @@ key_text (Extension s) = urn s
 -- the keys of the outermost object of a resource of a kind, in the JSON text for clients, in byte order
 abbrev pub shown_keys : Kind → List JsonKey
 shown_keys User =
-    Of Active ∷ Of Addresses ∷ Of DisplayName ∷ Of Emails ∷ Of Entitlements ∷ Of ExternalId ∷ Of Groups ∷ Of Id ∷ Of Ims ∷ Of Locale ∷ Of Meta ∷ Of Name ∷ Of NickName ∷ Of Password ∷ Of PhoneNumbers ∷ Of Photos ∷ Of PreferredLanguage ∷ Of ProfileUrl ∷ Of Roles ∷ Schemas ∷ Of Timezone ∷ Of Title ∷ Extension EnterpriseUser ∷ Of UserName ∷ Of UserType ∷ Of X509Certificates ∷ []
+    Of Active ∷ Of Addresses ∷ Of DisplayName ∷ Of Emails ∷ Of Entitlements ∷ Of ExternalId ∷ Of Groups ∷ Of Id ∷ Of Ims ∷ Of Locale ∷ Of Meta ∷ Of Name ∷ Of NickName ∷ Of Password ∷ Of PhoneNumbers ∷ Of Photos ∷ Of PreferredLanguage ∷ Of ProfileUrl ∷ Of Roles ∷ Schemas ∷ Of Timezone ∷ Of Title ∷ Extension SiteUser ∷ Extension EnterpriseUser ∷ Of UserName ∷ Of UserType ∷ Of X509Certificates ∷ []
 shown_keys Group = Of DisplayName ∷ Of ExternalId ∷ Of Id ∷ Of Members ∷ Of Meta ∷ Schemas ∷ []
 
 -- whether the JSON text for the store may have a key: not `schemas` or `groups`, which the server computes
@@ -57,9 +57,10 @@ unfoldable pub keys : JsonForm → Kind → List JsonKey
 keys Shown kind = shown_keys kind
 keys Stored kind = filter is_stored_key (shown_keys kind)
 
--- the attributes of an extension, in byte order of their names (RFC 7643 section 4.3)
+-- the attributes of an extension, in byte order of their names (RFC 7643 section 4.3, and the site extension)
 unfoldable pub extension_keys : Schema → List Attribute
 extension_keys EnterpriseUser = CostCenter ∷ Department ∷ Division ∷ EmployeeNumber ∷ Manager ∷ Organization ∷ []
+extension_keys SiteUser = Badge ∷ DoorCode ∷ Note ∷ []
 extension_keys _ = []
 
 -- the sub-attributes of most multi-valued attributes, in byte order of their names (RFC 7643 section 2.4)

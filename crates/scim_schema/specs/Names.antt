@@ -6,7 +6,7 @@ use Rattle.scim_schema.specs.declared.Kind.TheVariants.{User, Group}
 use Rattle.scim_schema.specs.declared.Op.{Op}
 use Rattle.scim_schema.specs.declared.Op.TheVariants.{Read, Create, Modify, Delete}
 use Rattle.scim_schema.specs.declared.Attribute.{Attribute}
-use Rattle.scim_schema.specs.declared.Attribute.TheVariants.{Id, ExternalId, UserName, Name, DisplayName, NickName, ProfileUrl, Title, UserType, PreferredLanguage, Locale, Timezone, Active, Password, Emails, PhoneNumbers, Ims, Photos, Addresses, Groups, Entitlements, Roles, X509Certificates, EmployeeNumber, CostCenter, Organization, Division, Department, Manager, Members, Meta}
+use Rattle.scim_schema.specs.declared.Attribute.TheVariants.{Id, ExternalId, UserName, Name, DisplayName, NickName, ProfileUrl, Title, UserType, PreferredLanguage, Locale, Timezone, Active, Password, Emails, PhoneNumbers, Ims, Photos, Addresses, Groups, Entitlements, Roles, X509Certificates, EmployeeNumber, CostCenter, Organization, Division, Department, Manager, Badge, Note, DoorCode, Members, Meta}
 use Rattle.scim_schema.specs.declared.SubAttribute.{SubAttribute}
 use Rattle.scim_schema.specs.declared.SubAttribute.TheVariants.{Formatted, FamilyName, GivenName, MiddleName, HonorificPrefix, HonorificSuffix, Value, Reference, Display, TypeName, Primary, StreetAddress, Locality, Region, PostalCode, Country, DisplayName as SubDisplayName, ResourceType, Created, LastModified, Location}
 
@@ -43,7 +43,7 @@ op_name Create = codes "create"
 op_name Modify = codes "modify"
 op_name Delete = codes "delete"
 
--- the name of an attribute (RFC 7643 sections 3.1, 4.1, 4.2 and 4.3)
+-- the name of an attribute (RFC 7643 sections 3.1, 4.1, 4.2 and 4.3, and the site extension)
 abbrev pub attribute_name : Attribute → List ℕ
 attribute_name Id = codes "id"
 attribute_name ExternalId = codes "externalId"
@@ -74,6 +74,9 @@ attribute_name Organization = codes "organization"
 attribute_name Division = codes "division"
 attribute_name Department = codes "department"
 attribute_name Manager = codes "manager"
+attribute_name Badge = codes "badge"
+attribute_name Note = codes "note"
+attribute_name DoorCode = codes "doorCode"
 attribute_name Members = codes "members"
 attribute_name Meta = codes "meta"
 

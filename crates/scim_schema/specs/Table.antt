@@ -5,7 +5,7 @@ use Rattle.scim_schema.specs.declared.Kind.{Kind}
 use Rattle.scim_schema.specs.declared.Kind.TheVariants.{User, Group}
 use Rattle.scim_schema.specs.declared.Leaf.{Leaf}
 use Rattle.scim_schema.specs.declared.Attribute.{Attribute}
-use Rattle.scim_schema.specs.declared.Attribute.TheVariants.{Id, ExternalId, UserName, Name, DisplayName, NickName, ProfileUrl, Title, UserType, PreferredLanguage, Locale, Timezone, Active, Password, Emails, PhoneNumbers, Ims, Photos, Addresses, Groups, Entitlements, Roles, X509Certificates, EmployeeNumber, CostCenter, Organization, Division, Department, Manager, Members, Meta}
+use Rattle.scim_schema.specs.declared.Attribute.TheVariants.{Id, ExternalId, UserName, Name, DisplayName, NickName, ProfileUrl, Title, UserType, PreferredLanguage, Locale, Timezone, Active, Password, Emails, PhoneNumbers, Ims, Photos, Addresses, Groups, Entitlements, Roles, X509Certificates, EmployeeNumber, CostCenter, Organization, Division, Department, Manager, Badge, Note, DoorCode, Members, Meta}
 use Rattle.scim_schema.specs.declared.SubAttribute.{SubAttribute}
 use Rattle.scim_schema.specs.declared.SubAttribute.TheVariants.{Formatted, FamilyName, GivenName, MiddleName, HonorificPrefix, HonorificSuffix, Value, Reference, Display, TypeName, Primary, StreetAddress, Locality, Region, PostalCode, Country, DisplayName as SubDisplayName, ResourceType, Created, LastModified, Location}
 
@@ -29,9 +29,13 @@ group_attributes = DisplayName ∷ Members ∷ []
 abbrev pub enterprise_attributes : List Attribute
 enterprise_attributes = EmployeeNumber ∷ CostCenter ∷ Organization ∷ Division ∷ Department ∷ Manager ∷ []
 
+-- the attributes of the site extension of a user
+abbrev pub site_attributes : List Attribute
+site_attributes = Badge ∷ Note ∷ DoorCode ∷ []
+
 -- all attributes of a kind
 abbrev pub attributes : Kind → List Attribute
-attributes User = common_attributes ++ single_user_attributes ++ multi_valued_user_attributes ++ enterprise_attributes ++ Meta ∷ []
+attributes User = common_attributes ++ single_user_attributes ++ multi_valued_user_attributes ++ enterprise_attributes ++ site_attributes ++ Meta ∷ []
 attributes Group = common_attributes ++ group_attributes ++ Meta ∷ []
 
 -- the sub-attributes of most multi-valued attributes (RFC 7643 section 2.4)

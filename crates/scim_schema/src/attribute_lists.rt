@@ -39,7 +39,7 @@ macro_rules! unit {
     };
 }
 
-static USER_ATTRIBUTES: [Attribute; 30] = [
+static USER_ATTRIBUTES: [Attribute; 33] = [
     Attribute::Id,
     Attribute::ExternalId,
     Attribute::UserName,
@@ -69,6 +69,9 @@ static USER_ATTRIBUTES: [Attribute; 30] = [
     Attribute::Division,
     Attribute::Department,
     Attribute::Manager,
+    Attribute::Badge,
+    Attribute::Note,
+    Attribute::DoorCode,
     Attribute::Meta,
 ];
 
@@ -80,7 +83,7 @@ static GROUP_ATTRIBUTES: [Attribute; 5] = [
     Attribute::Meta,
 ];
 
-static USER_LEAVES: [Leaf; 71] = [
+static USER_LEAVES: [Leaf; 74] = [
     leaf!(Id),
     leaf!(ExternalId),
     leaf!(UserName),
@@ -148,6 +151,9 @@ static USER_LEAVES: [Leaf; 71] = [
     leaf!(Manager, Value),
     leaf!(Manager, Reference),
     leaf!(Manager, DisplayName),
+    leaf!(Badge),
+    leaf!(Note),
+    leaf!(DoorCode),
     leaf!(Meta, ResourceType),
     leaf!(Meta, Created),
     leaf!(Meta, LastModified),
@@ -168,7 +174,7 @@ static GROUP_LEAVES: [Leaf; 11] = [
     leaf!(Meta, Location),
 ];
 
-static USER_UNITS: [Unit; 40] = [
+static USER_UNITS: [Unit; 43] = [
     unit!(Id),
     unit!(ExternalId),
     unit!(UserName),
@@ -205,11 +211,18 @@ static USER_UNITS: [Unit; 40] = [
     unit!(Manager, Value),
     unit!(Manager, Reference),
     unit!(Manager, DisplayName),
+    unit!(Badge),
+    unit!(Note),
+    unit!(DoorCode),
     unit!(Meta, ResourceType),
     unit!(Meta, Created),
     unit!(Meta, LastModified),
     unit!(Meta, Location),
 ];
+
+static UNIQUE_USER_LEAVES: [Leaf; 2] = [leaf!(UserName), leaf!(Badge)];
+
+static UNIQUE_USER_LEAVES_BY_NAME: [Leaf; 2] = [leaf!(Badge), leaf!(UserName)];
 
 static GROUP_UNITS: [Unit; 8] = [
     unit!(Id),
@@ -329,10 +342,24 @@ pub fn unique_leaves(kind: Kind) -> &'static [Leaf]
     ensures { result.now ≡ unique.unique_leaves kind }
 {
     match kind {
-        Kind::User => &[Leaf {
-            attribute: Attribute::UserName,
-            sub_attribute: None,
-        }],
+        Kind::User => &UNIQUE_USER_LEAVES,
         Kind::Group => &[],
     }
 }
+
+/// The leaves of [`unique_leaves`] in byte order of the names of their attributes.
+#[tactic(auto, unfolding(crate::specs::UniqueLeaves::unique_leaves_by_name))]
+pub fn unique_leaves_by_name(kind: Kind) -> &'static [Leaf]
+    ensures { result.now ≡ unique.unique_leaves_by_name kind }
+{
+    match kind {
+        Kind::User => &UNIQUE_USER_LEAVES_BY_NAME,
+        Kind::Group => &[],
+    }
+}
+
+/// Lemma: [`unique_leaves_by_name`] has the leaves of [`unique_leaves`], and the names of their attributes ascend.
+pub fn unique_leaves_in_order()
+    ensures permuted { unique.UniqueLeavesArePermuted }
+    ensures ascending { unique.UniqueLeavesAscend }
+{}

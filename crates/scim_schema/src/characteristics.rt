@@ -95,6 +95,13 @@ const BINARY: Characteristics = Characteristics {
     ..CASE_EXACT
 };
 
+/// A string that no client may read, and whose case matters.
+const WRITE_ONLY: Characteristics = Characteristics {
+    mutability: Mutability::WriteOnly,
+    returned: Returned::Never,
+    ..CASE_EXACT
+};
+
 const BOOLEAN: Characteristics = Characteristics {
     attribute_type: AttributeType::Boolean,
     ..PLAIN
@@ -137,7 +144,7 @@ impl Characteristics {
     }
 }
 
-/// The characteristics of an attribute of the kind (RFC 7643 sections 3.1, 4 and 7). If the kind
+/// The characteristics of an attribute of the kind (RFC 7643 sections 3.1, 4 and 7, and the site extension). If the kind
 /// doesn't have the attribute, returns the characteristics of the attribute for the other kind.
 pub fn attribute_characteristics(kind: Kind, attribute: Attribute) -> Characteristics
     ensures { result ≡ spec.attribute_characteristics kind attribute }
@@ -158,10 +165,14 @@ pub fn attribute_characteristics(kind: Kind, attribute: Attribute) -> Characteri
         },
         Attribute::ProfileUrl => REFERENCE,
         Attribute::Active => BOOLEAN,
-        Attribute::Password => Characteristics {
-            mutability: Mutability::WriteOnly,
-            returned: Returned::Never,
+        Attribute::Password | Attribute::DoorCode => WRITE_ONLY,
+        Attribute::Badge => Characteristics {
+            uniqueness: Uniqueness::Server,
             ..CASE_EXACT
+        },
+        Attribute::Note => Characteristics {
+            returned: Returned::Request,
+            ..PLAIN
         },
         Attribute::Name | Attribute::Manager => COMPLEX,
         Attribute::Meta => COMPLEX.read_only(),
@@ -279,12 +290,18 @@ pub fn is_read_only(kind: Kind, leaf: Leaf) -> bool
     characteristics_of(kind, leaf).mutability == Mutability::ReadOnly
 }
 
-/// Whether the leaf is write-only: a written value is neither stored nor returned (RFC 7643 section
-/// 2.2).
+/// Whether the leaf is write-only: no client may read it (RFC 7643 section 2.2).
 pub fn is_write_only(kind: Kind, leaf: Leaf) -> bool
     ensures { result ≡ written.is_write_only kind leaf }
 {
     characteristics_of(kind, leaf).mutability == Mutability::WriteOnly
+}
+
+/// Whether the leaf is dropped: a body may give it, and it is neither stored nor returned.
+pub fn is_dropped(leaf: Leaf) -> bool
+    ensures { result ≡ written.is_dropped leaf }
+{
+    leaf == Leaf::simple(Attribute::Password)
 }
 
 /// The mutability of the unit's sub-attribute, or of its attribute if the unit has no sub-attribute

@@ -39,7 +39,7 @@ pub enum JsonShape {
     MultiValued,
 }
 
-static SHOWN_USER_KEYS: [JsonKey; 26] = [
+static SHOWN_USER_KEYS: [JsonKey; 27] = [
     JsonKey::Of(Attribute::Active),
     JsonKey::Of(Attribute::Addresses),
     JsonKey::Of(Attribute::DisplayName),
@@ -62,13 +62,14 @@ static SHOWN_USER_KEYS: [JsonKey; 26] = [
     JsonKey::Schemas,
     JsonKey::Of(Attribute::Timezone),
     JsonKey::Of(Attribute::Title),
+    JsonKey::Extension(Schema::SiteUser),
     JsonKey::Extension(Schema::EnterpriseUser),
     JsonKey::Of(Attribute::UserName),
     JsonKey::Of(Attribute::UserType),
     JsonKey::Of(Attribute::X509Certificates),
 ];
 
-static STORED_USER_KEYS: [JsonKey; 24] = [
+static STORED_USER_KEYS: [JsonKey; 25] = [
     JsonKey::Of(Attribute::Active),
     JsonKey::Of(Attribute::Addresses),
     JsonKey::Of(Attribute::DisplayName),
@@ -89,6 +90,7 @@ static STORED_USER_KEYS: [JsonKey; 24] = [
     JsonKey::Of(Attribute::Roles),
     JsonKey::Of(Attribute::Timezone),
     JsonKey::Of(Attribute::Title),
+    JsonKey::Extension(Schema::SiteUser),
     JsonKey::Extension(Schema::EnterpriseUser),
     JsonKey::Of(Attribute::UserName),
     JsonKey::Of(Attribute::UserType),
@@ -155,6 +157,7 @@ pub fn extension_keys(schema: Schema) -> &'static [Attribute]
             Attribute::Manager,
             Attribute::Organization,
         ],
+        Schema::SiteUser => &[Attribute::Badge, Attribute::DoorCode, Attribute::Note],
     }
 }
 

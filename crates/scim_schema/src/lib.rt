@@ -14,11 +14,14 @@ mod lookup;
 mod names;
 mod schema_urns;
 
-pub use attribute_lists::{attributes, has_leaf, leaves, sub_attributes, unique_leaves, units};
+pub use attribute_lists::{
+    attributes, has_leaf, leaves, sub_attributes, unique_leaves, unique_leaves_by_name,
+    unique_leaves_in_order, units,
+};
 pub use characteristics::{
     AttributeType, Characteristics, Mutability, Returned, Uniqueness, attribute_characteristics,
-    characteristics_of, is_case_exact, is_multi_valued, is_read_only, is_write_only, mutability_of,
-    sub_attribute_characteristics,
+    characteristics_of, is_case_exact, is_dropped, is_multi_valued, is_read_only, is_write_only,
+    mutability_of, sub_attribute_characteristics,
 };
 pub use json_keys::{
     JsonForm, JsonKey, JsonShape, extension_keys, keys, keys_ascend, keys_have_all_attributes,
@@ -48,7 +51,8 @@ pub enum Op {
     Delete,
 }
 
-/// An attribute of a user (RFC 7643 sections 3.1, 4.1 and 4.3) or a group (sections 3.1 and 4.2).
+/// An attribute of a user (RFC 7643 sections 3.1, 4.1 and 4.3, and the site extension) or a group (sections 3.1
+/// and 4.2).
 ///
 /// An attribute of both users and groups, such as `id`, has a single variant.
 #[derive(Clone, Copy, Debug, PartialEq, Eq, PartialOrd, Ord, Hash)]
@@ -82,6 +86,9 @@ pub enum Attribute {
     Division,
     Department,
     Manager,
+    Badge,
+    Note,
+    DoorCode,
     Members,
     Meta,
 }

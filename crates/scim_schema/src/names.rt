@@ -99,6 +99,9 @@ impl Attribute {
             Attribute::Division => "division",
             Attribute::Department => "department",
             Attribute::Manager => "manager",
+            Attribute::Badge => "badge",
+            Attribute::Note => "note",
+            Attribute::DoorCode => "doorCode",
             Attribute::Members => "members",
             Attribute::Meta => "meta",
         }

@@ -1,4 +1,4 @@
-//! The schemas and their URNs (RFC 7643 sections 3 and 8.7).
+//! The schemas and their URNs (RFC 7643 sections 3 and 8.7, and the site extension).
 ghost use Rattle.std.specs.Prelude.{◌≡◌};
 ghost use Rattle.scim_schema.specs.Schemas as spec;
 
@@ -10,6 +10,8 @@ pub enum Schema {
     User,
     Group,
     EnterpriseUser,
+    /// The extension for what an organisation keeps of its own: badges, notes and door codes.
+    SiteUser,
 }
 
 impl Schema {
@@ -17,7 +19,12 @@ impl Schema {
     pub fn all() -> &'static [Schema]
         ensures { result.now ≡ spec.schemas }
     {
-        &[Schema::User, Schema::Group, Schema::EnterpriseUser]
+        &[
+            Schema::User,
+            Schema::Group,
+            Schema::EnterpriseUser,
+            Schema::SiteUser,
+        ]
     }
 
     /// The schema's URN.
@@ -28,6 +35,7 @@ impl Schema {
             Schema::User => "urn:ietf:params:scim:schemas:core:2.0:User",
             Schema::Group => "urn:ietf:params:scim:schemas:core:2.0:Group",
             Schema::EnterpriseUser => "urn:ietf:params:scim:schemas:extension:enterprise:2.0:User",
+            Schema::SiteUser => "urn:example:scim:schemas:extension:site:1.0:User",
         }
     }
 }
@@ -42,12 +50,13 @@ pub fn core_schema(kind: Kind) -> Schema
     }
 }
 
-/// The extensions that a resource of the kind may have (RFC 7643 section 3.3).
+/// The extensions that a resource of the kind may have, in the order in which `schemas` lists them (RFC 7643
+/// section 3.3).
 pub fn extensions(kind: Kind) -> &'static [Schema]
     ensures { result.now ≡ spec.extensions kind }
 {
     match kind {
-        Kind::User => &[Schema::EnterpriseUser],
+        Kind::User => &[Schema::EnterpriseUser, Schema::SiteUser],
         Kind::Group => &[],
     }
 }
@@ -63,6 +72,7 @@ pub fn extension_of(attribute: Attribute) -> Option<Schema>
         | Attribute::Division
         | Attribute::Department
         | Attribute::Manager => Some(Schema::EnterpriseUser),
+        Attribute::Badge | Attribute::Note | Attribute::DoorCode => Some(Schema::SiteUser),
         _ => None,
     }
 }

@@ -1,5 +1,5 @@
 -- Resources: parts that obey RFC 7643 sections 2.2 to 2.5, 3.1, 4.1 and 4.2, within this server's limits.
-use Rattle.std.specs.Prelude.{◌≡◌, ◌≢◌, ℕ, ◌≤◌, List, [], ◌++◌, length, codes, Option, Some, IsSome, All}
+use Rattle.std.specs.Prelude.{◌≡◌, ◌≢◌, ℕ, ◌≤◌, Bool, false, List, [], ◌++◌, length, codes, Option, Some, IsSome, All}
 use Rattle.std.specs.List.{count_by}
 use Rattle.std.specs.FinMap.{get}
 use Rattle.scim_schema.specs.declared.limits.TheConstants.{LONGEST_VALUE, MOST_VALUES}
@@ -8,8 +8,7 @@ use Rattle.scim_schema.specs.declared.Kind.TheVariants.{User, Group}
 use Rattle.scim_schema.specs.declared.Leaf.{Leaf}
 use Rattle.scim_schema.specs.declared.Attribute.TheVariants.{Id, UserName, DisplayName, Groups, Members, Meta}
 use Rattle.scim_schema.specs.declared.SubAttribute.TheVariants.{Value, ResourceType, Created, LastModified, Location}
-use Rattle.scim_schema.specs.declared.characteristics.Mutability.TheVariants.{WriteOnly}
-use Rattle.scim_schema.specs.Characteristics.{characteristics_of}
+use Rattle.scim_schema.specs.Mutability.{is_dropped}
 use Rattle.scim_schema.specs.Names.{kind_name, endpoint}
 use Rattle.scim_schema.specs.Table.{attributes}
 use Rattle.scim_schema.specs.Units.{simple, leaf_at, whole}
@@ -77,11 +76,12 @@ abbrev pub IsShort : Atom → Type 0
 IsShort (Text t) = length t ≤ LONGEST_VALUE
 IsShort _ = Unit {0}
 
--- a resource may have the field: it isn't in `groups`, which the server computes, and isn't at a writeOnly
--- leaf (RFC 7643 sections 4.1.2 and 7), and a text has at most 65,536 bytes except at `meta.location`
+-- a resource may have the field: it isn't in `groups`, which the server computes, and isn't dropped, as a
+-- `password` is (RFC 7643 sections 4.1.1 and 4.1.2), and a text has at most 65,536 bytes except at
+-- `meta.location`
 pub record MayBeKept (kind : Kind) (f : Field) : Type 0 where
   pub own : f.leaf.attribute ≢ Groups
-  pub shown : (characteristics_of kind f.leaf).mutability ≢ WriteOnly
+  pub stored : is_dropped f.leaf ≡ false
   pub short : f.leaf ≢ leaf_at Meta Location → IsShort f.atom
 
 -- a part is a complete resource

@@ -12,8 +12,7 @@ ghost use Rattle.scim_value.specs.Resource.{first_at, IsResource, IsIdentified, 
 use crate::parts::Part;
 use scim_cell::{Atom, Field, Id, Row};
 use scim_schema::{
-    Attribute, Kind, LONGEST_VALUE, Leaf, MOST_VALUES, Mutability, SubAttribute, Unit, attributes,
-    characteristics_of,
+    Attribute, Kind, LONGEST_VALUE, Leaf, MOST_VALUES, SubAttribute, Unit, attributes, is_dropped,
 };
 
 /// Whether the part is a valid resource. `meta.location` may be below any base.
@@ -21,7 +20,7 @@ use scim_schema::{
 /// These are the rules: `id` is the id of the part and `meta` is complete (RFC 7643 section 3.1). A user
 /// has a `userName` that isn't empty (section 4.1.1), and a group has a `displayName` (section 4.2). Each
 /// member has a `value` (section 4.2). No attribute has two values whose `primary` is true (section 2.4).
-/// There are no cells of `groups` or of writeOnly attributes (sections 4.1.2 and 7). The part is within
+/// There are no cells of `groups` and no `password` (sections 4.1.1 and 4.1.2). The part is within
 /// the limits `MOST_VALUES` and `LONGEST_VALUE`.
 pub fn is_resource(part: &Part) -> bool
     ensures { IsTrue result ↔ IsResource part.now }
@@ -207,13 +206,13 @@ fn is_location(leaf: Leaf) -> bool
     leaf == Leaf::of(Attribute::Meta, SubAttribute::Location)
 }
 
-/// Whether a resource may have the field: the field doesn't belong to `groups` or to a writeOnly leaf, and
-/// a text has at most `LONGEST_VALUE` bytes unless the leaf is `meta.location`.
+/// Whether a resource may have the field: the field doesn't belong to `groups` and isn't dropped, and a text
+/// has at most `LONGEST_VALUE` bytes unless the leaf is `meta.location`.
 fn may_be_kept(kind: Kind, field: &Field) -> bool
     ensures { IsTrue result ↔ MayBeKept kind field.now }
 {
     field.leaf.attribute != Attribute::Groups
-        && characteristics_of(kind, field.leaf).mutability != Mutability::WriteOnly
+        && !is_dropped(field.leaf)
         && (is_location(field.leaf) || is_short(&field.atom))
 }
 
