@@ -13,6 +13,7 @@ pub mod KeyedLookups
 pub mod PartCells
 pub mod Back
 pub mod ReadBack
+pub mod KeptParts
 pub mod ReadingLemmas
 pub mod TakenLemmas
 pub mod DocumentLemmas

@@ -1,6 +1,7 @@
 pub mod Documents
 pub mod DocumentReading
 pub mod Found
+pub mod Kept
 pub mod Laws
 pub mod ListData
 pub mod PartData

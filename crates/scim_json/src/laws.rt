@@ -1,5 +1,5 @@
 //! Lemmas about the JSON of all parts and resources.
-ghost use Rattle.scim_json.specs.Laws.{PartsAreShownWhole, KeptReadsBack, StoredResourcesReadBack};
+ghost use Rattle.scim_json.specs.Laws.{PartsAreShownWhole, KeptReadsBack, StoredResourcesReadBack, KeptPartsDetermine, KeptPartsReadBack};
 ghost use Rattle.scim_json.specs.Stored.{DocumentsAreApart};
 
 /// Lemma: the JSON that `to_json` writes contains all cells of the part, and no other cells.
@@ -24,4 +24,15 @@ pub fn documents_read_back()
 /// `meta.location` of the resource is below the base. The call fails only if memory runs out.
 pub fn stored_resources_read_back()
     ensures { StoredResourcesReadBack }
+{}
+
+/// Lemma: no two resources below the same base have the same kept parts.
+pub fn kept_parts_determine()
+    ensures { KeptPartsDetermine }
+{}
+
+/// Lemma: [`crate::read_kept`] reads the parts that [`crate::kept_parts`] returns back as the same resource,
+/// if the `meta.location` of the resource is below the base. The call fails only if memory runs out.
+pub fn kept_parts_read_back()
+    ensures { KeptPartsReadBack }
 {}

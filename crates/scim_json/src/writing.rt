@@ -152,7 +152,7 @@ fn write_urns(
 
 /// Whether the part has a cell of an attribute of the extension.
 #[tactic(auto, unfolding(crate::specs::PartData::has_extension))]
-fn has_extension(part: &Part, schema: Schema) -> bool
+pub fn has_extension(part: &Part, schema: Schema) -> bool
     ensures { result ≡ spec.has_extension (rows part.now) schema }
 {
     part.rows()
