@@ -61,9 +61,9 @@ simple_rows : (kind : Kind) (a : Attribute) (d : Data) (gs : List Given) → Con
     → is_multi_valued a ≡ false → sub_attributes a ≡ [] → simple_given kind a d ≡ Some gs → AreOf kind a gs
 simple_rows kind a d gs has writable single none h =
     let t = (characteristics_of kind (simple a)).attribute_type in
-    let c = chained (named_given kind a) (given_atom t d) gs h in
+    let c = chained (named_given a) (given_atom t d) gs h in
     let f : Field = record { leaf = simple a; atom = c.0 } in
-    let kept = not_refused (sameb the_attribute a UserName && is_empty c.0) (field_given kind f ∷ []) gs c.2 in
+    let kept = not_refused (sameb the_attribute a UserName && is_empty c.0) (field_given f ∷ []) gs c.2 in
     let atom = atom_given t d c.0 (simple_no_moment kind a) c.1 in
     let one : IsSingle kind a f
     = record { of_attribute = refl; writable = writable; short = atom.1; filled = filled a c.0 kept.0; of_kind = has_simple kind a has none; typed = atom.0 } in
@@ -73,7 +73,7 @@ simple_rows kind a d gs has writable single none h =
 complex_rows : (kind : Kind) (a : Attribute) (d : Data) (gs : List Given) → Contains (attributes kind) a → is_read_only kind (simple a) ≡ false
     → is_multi_valued a ≡ false → complex_given kind a d ≡ Some gs → AreOf kind a gs
 complex_rows kind a d gs has writable single h =
-    let m = mapped (map (field_given kind)) (fields_of kind a d) gs h in
+    let m = mapped (map field_given) (fields_of kind a d) gs h in
     let fields = fields_given kind a d m.0 has writable m.1 in
     let own : All (IsSingle kind a) m.0 = λ i e l. (let o = fields.own i e l in record {
       of_attribute = ap (λ (l : Leaf). l.attribute) o.1.leaf;

@@ -80,7 +80,7 @@ made_of : (kind : Kind) (a : Attribute) (b : SubAttribute) (atom : Atom) → Has
     → IsGivenAtom (characteristics_of kind (leaf_at a b)).attribute_type atom → IsOf kind a b (record { leaf = leaf_at a b; atom = atom })
 made_of kind a b atom has writable given = record {
   leaf = refl;
-  may_be_given = record { writable = writable; kept = sub_attribute_kept kind a b; short = given.1; filled = λ e. absurd (cc (ap (λ (l : Leaf). l.sub_attribute) e)) };
+  may_be_given = record { writable = writable; kept = sub_attribute_kept a b; short = given.1; filled = λ e. absurd (cc (ap (λ (l : Leaf). l.sub_attribute) e)) };
   of_kind = has;
   typed = given.0;
 }

@@ -25,7 +25,7 @@ use Rattle.scim_schema.specs.contracts.Attribute.{the_type as the_attribute}
 use Rattle.scim_schema.specs.Table.{attributes, HasLeaf}
 use Rattle.scim_schema.specs.Characteristics.{characteristics_of, is_multi_valued}
 use Rattle.scim_schema.specs.Units.{simple, leaf_at, unit_of, whole}
-use Rattle.scim_schema.specs.Mutability.{is_read_only, is_write_only}
+use Rattle.scim_schema.specs.Mutability.{is_read_only, is_dropped}
 use Rattle.scim_cell.specs.declared.atoms.Atom.{Atom}
 use Rattle.scim_cell.specs.declared.rows.Field.{Field}
 use Rattle.scim_cell.specs.Content.{HasType}
@@ -148,7 +148,7 @@ not_members : (a b : Attribute) → is_multi_valued a ≡ false → b ≡ a → 
 not_members a b single e m = let many : is_multi_valued a ≡ true = ap is_multi_valued (sym e ∙ m) in true≢false (sym many ∙ single)
 
 -- a field that is kept makes a row that may be given
-pub single_row : (kind : Kind) (a : Attribute) (f : Field) → is_multi_valued a ≡ false → IsSingle kind a f → is_write_only kind f.leaf ≡ false → IsGivenRow kind (row_with f)
+pub single_row : (kind : Kind) (a : Attribute) (f : Field) → is_multi_valued a ≡ false → IsSingle kind a f → is_dropped f.leaf ≡ false → IsGivenRow kind (row_with f)
 single_row kind a f single h kept = record {
   full = refl;
   own = record {
@@ -172,11 +172,11 @@ single_before kind a f g single x y less =
     sub_attribute_precedes (unit_of f.leaf) (unit_of g.leaf) (x.of_attribute ∙ sym y.of_attribute) lower
 
 -- a field that is kept
-abbrev is_kept : Kind → Field → Bool
-is_kept kind f = not (is_write_only kind f.leaf)
+abbrev is_kept : Field → Bool
+is_kept f = not (is_dropped f.leaf)
 
 -- the rows of fields that are kept
-kept_rows : (kind : Kind) (a : Attribute) (fs : List Field) → is_multi_valued a ≡ false → All (IsSingle kind a) fs → AllPairs Rises fs → All (λ f. is_kept kind f ≡ true) fs
+kept_rows : (kind : Kind) (a : Attribute) (fs : List Field) → is_multi_valued a ≡ false → All (IsSingle kind a) fs → AllPairs Rises fs → All (λ f. is_kept f ≡ true) fs
     → AreGivenRows kind a (map row_with fs)
 kept_rows kind a fs single own rise kept =
     let pairs : AllPairs Before (map row_with fs)
@@ -196,12 +196,12 @@ kept_rows kind a fs single own rise kept =
 
 -- the rows of fields, without those that aren't kept
 pub single_rows : (kind : Kind) (a : Attribute) (fs : List Field) → is_multi_valued a ≡ false → All (IsSingle kind a) fs → AllPairs Rises fs
-    → AreGivenRows kind a (flat_map (λ (g : Given). g.values) (map (field_given kind) fs))
+    → AreGivenRows kind a (flat_map (λ (g : Given). g.values) (map field_given fs))
 single_rows kind a fs single own rise =
-    let made : flat_map (λ (g : Given). g.values) (map (field_given kind) fs) ≡ map row_with (filter (is_kept kind) fs)
-    = flat_map-map (λ (g : Given). g.values) (field_given kind) fs ∙ kept_map (λ (f : Field). is_write_only kind f.leaf) row_with fs in
+    let made : flat_map (λ (g : Given). g.values) (map field_given fs) ≡ map row_with (filter is_kept fs)
+    = flat_map-map (λ (g : Given). g.values) field_given fs ∙ kept_map (λ (f : Field). is_dropped f.leaf) row_with fs in
     subst (AreGivenRows kind a) (sym made)
-    (kept_rows kind a (filter (is_kept kind) fs) single (All-filter (is_kept kind) (IsSingle kind a) fs own) (AllPairs-filter Rises (is_kept kind) fs rise) (filter_passes (is_kept kind) fs))
+    (kept_rows kind a (filter is_kept fs) single (All-filter is_kept (IsSingle kind a) fs own) (AllPairs-filter Rises is_kept fs rise) (filter_passes is_kept fs))
 
 -- ---- attributes with many values
 

@@ -2,6 +2,7 @@
 use Rattle.std.proofs.Common.{◌≡◌, ◌<◌, ◌∙◌, ℕ, zero, suc, Bool, true, false, List, [], ◌∷◌, map, length, get_or, refl, ap, sym, subst, arith, true≢false}
 use Rattle.std.specs.Prelude.{All, Contains, Some, None, if◌then◌else◌}
 use Rattle.std.specs.List.{flat_map, list_all, list_any}
+use Rattle.std.proofs.Math.Bool.{and-false}
 use Rattle.std.proofs.lemmas.Bool.{not-true}
 use Rattle.std.proofs.lemmas.List.Elements.{Contains-append_left, Contains-append_right}
 use Rattle.std.proofs.lemmas.List.Folds.{Any-from_list_any}
@@ -9,22 +10,20 @@ use denote.Enum.Bare.{sameb}
 use Rattle.scim_schema.specs.declared.Kind.{Kind}
 use Rattle.scim_schema.specs.declared.Kind.TheVariants.{User, Group}
 use Rattle.scim_schema.specs.declared.Attribute.{Attribute}
-use Rattle.scim_schema.specs.declared.Attribute.TheVariants.{Id, Photos, Addresses, Groups, X509Certificates, Manager, Members, Meta}
+use Rattle.scim_schema.specs.declared.Attribute.TheVariants.{Id, Password, Photos, Addresses, Groups, X509Certificates, Manager, Members, Meta}
 use Rattle.scim_schema.specs.declared.SubAttribute.{SubAttribute}
 use Rattle.scim_schema.specs.declared.SubAttribute.TheVariants as sub_attribute
 use Rattle.scim_schema.specs.declared.Leaf.{Leaf}
 use Rattle.scim_schema.specs.declared.characteristics.AttributeType.TheVariants.{DateTime}
-use Rattle.scim_schema.specs.declared.characteristics.Mutability.TheVariants.{WriteOnly}
 use Rattle.scim_schema.specs.contracts.SubAttribute.{the_type as the_sub_attribute}
 use Rattle.scim_schema.specs.contracts.characteristics.AttributeType.{the_type as the_attribute_type}
-use Rattle.scim_schema.specs.contracts.characteristics.Mutability.{the_type as the_mutability}
 use Rattle.scim_schema.specs.Table.{attributes, sub_attributes, leaves_with, HasLeaf}
-use Rattle.scim_schema.specs.Characteristics.{characteristics_of, is_multi_valued, common_sub_attribute, linked_sub_attribute, photo_sub_attribute, certificate_sub_attribute, manager_sub_attribute, member_sub_attribute, meta_sub_attribute}
-use Rattle.scim_schema.specs.Units.{simple, leaf_at, unit_of, whole}
+use Rattle.scim_schema.specs.Characteristics.{characteristics_of, is_multi_valued, common_sub_attribute, linked_sub_attribute, photo_sub_attribute, certificate_sub_attribute, manager_sub_attribute, member_sub_attribute}
+use Rattle.scim_schema.specs.Units.{simple, leaf_at, unit_of, whole, is_same_attribute}
 use Rattle.scim_schema.specs.declared.json_keys.JsonShape.TheVariants.{Simple, Complex}
 use Rattle.scim_schema.specs.JsonKeys.{shape_of}
 use Rattle.scim_schema.proofs.Facts.{sub_attribute_one}
-use Rattle.scim_schema.specs.Mutability.{is_read_only, is_write_only}
+use Rattle.scim_schema.specs.Mutability.{is_read_only, is_dropped}
 use Rattle.scim_cell.specs.Place.{attribute_number, sub_attribute_number, sub_attributes_by_place}
 use Rattle.scim_body.proofs.CollectedLemmas.{is_rising, all_passes}
 use Rattle.scim_json.proofs.Facts.{fits}
@@ -125,50 +124,9 @@ many_unit a b m = ap (λ (many : Bool). record { attribute = a; sub_attribute = 
 
 -- ---- what may be written
 
--- a sub-attribute of most attributes isn't writeOnly
-common_kept : (b : SubAttribute) → sameb the_mutability (common_sub_attribute b).mutability WriteOnly ≡ false
-common_kept sub_attribute.Primary = refl
-common_kept _ = refl
-
--- nor is one that is linked
-linked_kept : (b : SubAttribute) → sameb the_mutability (linked_sub_attribute b).mutability WriteOnly ≡ false
-linked_kept sub_attribute.Value = refl
-linked_kept _ = refl
-
--- nor is one of `photos`
-photo_kept : (b : SubAttribute) → sameb the_mutability (photo_sub_attribute b).mutability WriteOnly ≡ false
-photo_kept sub_attribute.Value = refl
-photo_kept b = common_kept b
-
--- nor is one of `x509Certificates`
-certificate_kept : (b : SubAttribute) → sameb the_mutability (certificate_sub_attribute b).mutability WriteOnly ≡ false
-certificate_kept sub_attribute.Value = refl
-certificate_kept b = common_kept b
-
--- nor is one of `manager`
-manager_kept : (b : SubAttribute) → sameb the_mutability (manager_sub_attribute b).mutability WriteOnly ≡ false
-manager_kept sub_attribute.DisplayName = refl
-manager_kept b = linked_kept b
-
--- nor is one of `members`
-member_kept : (b : SubAttribute) → sameb the_mutability (member_sub_attribute b).mutability WriteOnly ≡ false
-member_kept sub_attribute.Value = refl
-member_kept _ = refl
-
--- nor is one of `meta`
-meta_kept : (b : SubAttribute) → sameb the_mutability (meta_sub_attribute b).mutability WriteOnly ≡ false
-meta_kept sub_attribute.Created = refl
-meta_kept _ = refl
-
--- so no sub-attribute is
-pub sub_attribute_kept : (kind : Kind) (a : Attribute) (b : SubAttribute) → is_write_only kind (leaf_at a b) ≡ false
-sub_attribute_kept kind Photos b = photo_kept b
-sub_attribute_kept kind X509Certificates b = certificate_kept b
-sub_attribute_kept kind Groups b = refl
-sub_attribute_kept kind Manager b = manager_kept b
-sub_attribute_kept kind Members b = member_kept b
-sub_attribute_kept kind Meta b = meta_kept b
-sub_attribute_kept kind _ b = common_kept b
+-- no sub-attribute is dropped
+pub sub_attribute_kept : (a : Attribute) (b : SubAttribute) → is_dropped (leaf_at a b) ≡ false
+sub_attribute_kept a b = and-false (is_same_attribute a Password)
 
 -- a leaf isn't a moment
 abbrev pub IsNoMoment : Kind → Leaf → Type 0

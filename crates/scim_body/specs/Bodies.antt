@@ -18,7 +18,7 @@ use Rattle.scim_schema.specs.Table.{attributes}
 use Rattle.scim_schema.specs.Characteristics.{characteristics_of}
 use Rattle.scim_schema.specs.Units.{simple, unit_of, whole}
 use Rattle.scim_schema.specs.JsonKeys.{shape_of}
-use Rattle.scim_schema.specs.Mutability.{is_read_only, is_write_only}
+use Rattle.scim_schema.specs.Mutability.{is_read_only, is_dropped}
 use Rattle.scim_cell.specs.declared.atoms.Atom.{Atom}
 use Rattle.scim_cell.specs.declared.rows.Field.{Field}
 use Rattle.scim_cell.specs.Rows.{Row}
@@ -35,25 +35,25 @@ pub record Given : Type 0 where
   pub unit : AttributeUnit
   pub values : List Row
 
--- the unit of a single-valued field, without values if the field is writeOnly, such as a password
-abbrev pub field_given : Kind → Field → Given
-field_given kind f =
-    record { unit = unit_of f.leaf; values = if is_write_only kind f.leaf then [] else record { unit = unit_of f.leaf; fields = f ∷ [] } ∷ [] }
+-- the unit of a single-valued field, without values if the field is dropped, as a password is
+abbrev pub field_given : Field → Given
+field_given f =
+    record { unit = unit_of f.leaf; values = if is_dropped f.leaf then [] else record { unit = unit_of f.leaf; fields = f ∷ [] } ∷ [] }
 
 -- the unit of a simple attribute with this atom; None for an empty `userName`, which is refused (RFC 7643
 -- section 4.1.1)
-abbrev pub named_given : Kind → Attribute → Atom → Option (List Given)
-named_given kind a atom =
-    if sameb the_attribute a UserName && is_empty atom then None else Some (field_given kind (record { leaf = simple a; atom = atom }) ∷ [])
+abbrev pub named_given : Attribute → Atom → Option (List Given)
+named_given a atom =
+    if sameb the_attribute a UserName && is_empty atom then None else Some (field_given (record { leaf = simple a; atom = atom }) ∷ [])
 
 -- the unit read from a value of a simple attribute; None if the value is refused
 abbrev pub simple_given : Kind → Attribute → Data → Option (List Given)
-simple_given kind a d = option_and_then (named_given kind a) (given_atom (characteristics_of kind (simple a)).attribute_type d)
+simple_given kind a d = option_and_then (named_given a) (given_atom (characteristics_of kind (simple a)).attribute_type d)
 
 -- the units read from a value of a complex attribute, one for each of its fields; None if the value is
 -- refused
 abbrev pub complex_given : Kind → Attribute → Data → Option (List Given)
-complex_given kind a d = option_map (map (field_given kind)) (fields_of kind a d)
+complex_given kind a d = option_map (map field_given) (fields_of kind a d)
 
 -- the unit of a multi-valued attribute, if it has values
 abbrev pub whole_given : Attribute → List Row → List Given

@@ -10,7 +10,7 @@ use Rattle.scim_schema.specs.contracts.Attribute.{the_type as the_attribute}
 use Rattle.scim_schema.specs.Table.{attributes}
 use Rattle.scim_schema.specs.Characteristics.{attribute_characteristics}
 use Rattle.scim_schema.specs.Units.{simple, is_same_unit}
-use Rattle.scim_schema.specs.Mutability.{is_read_only, is_write_only}
+use Rattle.scim_schema.specs.Mutability.{is_read_only, is_dropped}
 use Rattle.scim_cell.specs.declared.atoms.Atom.{Atom}
 use Rattle.scim_cell.specs.declared.atoms.Atom.TheVariants.{Text}
 use Rattle.scim_cell.specs.declared.rows.Field.{Field}
@@ -44,11 +44,11 @@ is_missing kind rs a = (attribute_characteristics kind a).required && not (list_
 unfoldable pub lacks_required : Kind → List Row → Bool
 lacks_required kind rs = list_any (is_missing kind rs) (attributes kind)
 
--- a field may come from a body and be stored: it is neither readOnly nor writeOnly (RFC 7643 section 2.2),
--- its text has at most 65,536 bytes, and it isn't an empty `userName` (section 4.1.1)
+-- a field may come from a body and be stored: it isn't readOnly (RFC 7643 section 2.2), its leaf isn't
+-- dropped, its text has at most 65,536 bytes, and it isn't an empty `userName` (section 4.1.1)
 pub record MayBeGiven (kind : Kind) (f : Field) : Type 0 where
   pub writable : is_read_only kind f.leaf ≡ false
-  pub kept : is_write_only kind f.leaf ≡ false
+  pub kept : is_dropped f.leaf ≡ false
   pub short : IsShort f.atom
   pub filled : f.leaf ≡ simple UserName → is_empty f.atom ≡ false
 

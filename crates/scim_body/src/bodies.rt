@@ -23,7 +23,7 @@ use json::Scratch;
 use scim_cell::{Atom, Field, Row};
 use scim_schema::{
     Attribute, JsonShape, Kind, Leaf, Schema, Unit, attributes, characteristics_of, extension_of,
-    is_read_only, is_write_only, shape_of, unit_of,
+    is_dropped, is_read_only, shape_of, unit_of,
 };
 use scim_text::{Failed, NoMemory, push};
 use std::alloc::Global;
@@ -44,7 +44,7 @@ pub enum BodyFault {
 
 /// A unit for which a body has a value, with the values to store.
 ///
-/// A writeOnly unit, such as a password, has no values here, since they aren't stored.
+/// The unit of a dropped leaf, as `password` is, has no values here, since they aren't stored.
 #[derive(Drop)]
 pub struct UnitGiven {
     /// The unit.
@@ -297,7 +297,7 @@ fn read_simple(
     if attribute == Attribute::UserName && is_empty(&atom) {
         return Err(Failed::Because(WrongValue));
     }
-    push(given, field_given(alloc, kind, Field { leaf, atom })?)?;
+    push(given, field_given(alloc, Field { leaf, atom })?)?;
     Ok(())
 }
 
@@ -311,13 +311,13 @@ fn is_empty(atom: &Atom) -> bool
     }
 }
 
-/// The unit of a single-valued field, with no values if the field is writeOnly.
-pub fn field_given(alloc: Global, kind: Kind, field: Field) -> Result<UnitGiven, NoMemory>
-    ensures { IfOk result (λ g. unit_given g ≡ spec.field_given kind field) }
+/// The unit of a single-valued field, with no values if the leaf of the field is dropped, as `password` is.
+pub fn field_given(alloc: Global, field: Field) -> Result<UnitGiven, NoMemory>
+    ensures { IfOk result (λ g. unit_given g ≡ spec.field_given field) }
 {
     let unit = unit_of(field.leaf);
     let mut values = Vec::new(alloc);
-    if is_write_only(kind, field.leaf) {
+    if is_dropped(field.leaf) {
         return Ok(UnitGiven { unit, values });
     }
     let mut fields = Vec::new(alloc);
@@ -342,22 +342,21 @@ fn read_complex(
     ensures wrong { OnFault result (spec.complex_given kind attribute (view value.now) ≡ None) }
 {
     let fields = read_fields(alloc, value, kind, attribute)?;
-    push_fields(alloc, kind, fields, given)?;
+    push_fields(alloc, fields, given)?;
     Ok(())
 }
 
 /// Appends each field as a unit of its own.
 fn push_fields(
     alloc: Global,
-    kind: Kind,
     fields: Vec<Field>,
     given: &mut Vec<UnitGiven>,
 ) -> Result<(), NoMemory>
     ensures { OnOk result (units_given given.new.items
-        ≡ units_given given.old.items ++ map (spec.field_given kind) fields.items) }
+        ≡ units_given given.old.items ++ map spec.field_given fields.items) }
 {
     for field in fields {
-        push(given, field_given(alloc, kind, field)?)?;
+        push(given, field_given(alloc, field)?)?;
     }
     Ok(())
 }

@@ -112,7 +112,8 @@ impl Draft {
         false
     }
 
-    /// The values of `unit` to store, in the order of the body. Empty for a writeOnly unit.
+    /// The values of `unit` to store, in the order of the body. Empty for a unit that is
+    /// dropped, as `password` is.
     pub fn values(&self, unit: Unit) -> &[Row]
         ensures values { result.now ≡ values unit self.now.rows }
         ensures valid { IsDraft self.now }

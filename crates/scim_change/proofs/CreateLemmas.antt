@@ -12,14 +12,12 @@ use Rattle.scim_schema.specs.declared.Attribute.TheVariants.{Id, UserName, Displ
 use Rattle.scim_schema.specs.declared.SubAttribute.{SubAttribute}
 use Rattle.scim_schema.specs.declared.SubAttribute.TheVariants.{Value, ResourceType, Created, LastModified, Location}
 use Rattle.scim_schema.specs.declared.Leaf.{Leaf}
-use Rattle.scim_schema.specs.declared.characteristics.Mutability.TheVariants.{WriteOnly}
 use Rattle.scim_schema.specs.contracts.Attribute.{the_type as the_attribute}
-use Rattle.scim_schema.specs.contracts.characteristics.Mutability.{the_type as the_mutability}
 use Rattle.scim_schema.specs.Characteristics.{attribute_characteristics, characteristics_of}
 use Rattle.scim_schema.specs.Names.{kind_name}
 use Rattle.scim_schema.specs.Table.{attributes}
 use Rattle.scim_schema.specs.Units.{simple, leaf_at, whole, unit_of}
-use Rattle.scim_schema.specs.Mutability.{is_read_only, is_write_only}
+use Rattle.scim_schema.specs.Mutability.{is_read_only}
 use Rattle.scim_text.specs.Moments.{last_moment}
 use Rattle.scim_cell.specs.declared.atoms.Atom.{Atom}
 use Rattle.scim_cell.specs.declared.atoms.Atom.TheVariants.{Text, Moment, Truth}
@@ -60,7 +58,7 @@ not_groups kind l free e =
 pub kept_field : (kind : Kind) (f : Field) → MayBeGiven kind f → MayBeKept kind f
 kept_field kind f given = record {
   own = not_groups kind f.leaf given.writable;
-  shown = λ e. (let s : is_write_only kind f.leaf ≡ true = true_same the_mutability _ WriteOnly e in let n = given.kept in cc);
+  stored = given.kept;
   short = λ n. given.short;
 }
 
@@ -68,24 +66,24 @@ pub one_kept : (kind : Kind) (l : Leaf) (atom : Atom) → MayBeKept kind (record
 one_kept kind l atom h = All-cons (MayBeKept kind) (record { leaf = l; atom = atom }) [] h (All-nil (MayBeKept kind))
 
 id_kept : (kind : Kind) (id : List ℕ) → MayBeKept kind (record { leaf = simple Id; atom = Text (id_text id) })
-id_kept User id = record { own = λ e. cc; shown = λ e. cc; short = λ n. (let long = (IsIdText-id_text id).long in omega (arith, long)) }
-id_kept Group id = record { own = λ e. cc; shown = λ e. cc; short = λ n. (let long = (IsIdText-id_text id).long in omega (arith, long)) }
+id_kept User id = record { own = λ e. cc; stored = refl; short = λ n. (let long = (IsIdText-id_text id).long in omega (arith, long)) }
+id_kept Group id = record { own = λ e. cc; stored = refl; short = λ n. (let long = (IsIdText-id_text id).long in omega (arith, long)) }
 
 resource_type_kept : (kind : Kind) → MayBeKept kind (record { leaf = leaf_at Meta ResourceType; atom = Text (kind_name kind) })
-resource_type_kept User = record { own = λ e. cc; shown = λ e. cc; short = λ n. omega arith }
-resource_type_kept Group = record { own = λ e. cc; shown = λ e. cc; short = λ n. omega arith }
+resource_type_kept User = record { own = λ e. cc; stored = refl; short = λ n. omega arith }
+resource_type_kept Group = record { own = λ e. cc; stored = refl; short = λ n. omega arith }
 
 created_kept : (kind : Kind) (m : ℕ) → MayBeKept kind (record { leaf = leaf_at Meta Created; atom = Moment m })
-created_kept User m = record { own = λ e. cc; shown = λ e. cc; short = λ n. tt }
-created_kept Group m = record { own = λ e. cc; shown = λ e. cc; short = λ n. tt }
+created_kept User m = record { own = λ e. cc; stored = refl; short = λ n. tt }
+created_kept Group m = record { own = λ e. cc; stored = refl; short = λ n. tt }
 
 pub last_modified_kept : (kind : Kind) (m : ℕ) → MayBeKept kind (record { leaf = leaf_at Meta LastModified; atom = Moment m })
-last_modified_kept User m = record { own = λ e. cc; shown = λ e. cc; short = λ n. tt }
-last_modified_kept Group m = record { own = λ e. cc; shown = λ e. cc; short = λ n. tt }
+last_modified_kept User m = record { own = λ e. cc; stored = refl; short = λ n. tt }
+last_modified_kept Group m = record { own = λ e. cc; stored = refl; short = λ n. tt }
 
 location_kept : (kind : Kind) (t : List ℕ) → MayBeKept kind (record { leaf = leaf_at Meta Location; atom = Text t })
-location_kept User t = record { own = λ e. cc; shown = λ e. cc; short = λ n. absurd (n refl) }
-location_kept Group t = record { own = λ e. cc; shown = λ e. cc; short = λ n. absurd (n refl) }
+location_kept User t = record { own = λ e. cc; stored = refl; short = λ n. absurd (n refl) }
+location_kept Group t = record { own = λ e. cc; stored = refl; short = λ n. absurd (n refl) }
 
 module _ (d : Draft) (is : IsDraft d) (id : List ℕ) (moment : ℕ) (base : List ℕ) where
   abbrev made : List Row

@@ -2,6 +2,7 @@
 use Rattle.std.proofs.Common.{◌≡◌, ◌≤◌, ℕ, false, sym, ◌∙◌, subst, inl, inr, List}
 use Rattle.std.specs.Prelude.{Some, All}
 use Rattle.std.proofs.lemmas.Bool.{cases_Bool}
+use Rattle.std.proofs.lemmas.List.Elements.{All-filter}
 use Rattle.scim_text.specs.Moments.{last_moment}
 use Rattle.scim_schema.specs.declared.Unit.{Unit as AttributeUnit}
 use Rattle.scim_schema.specs.Mutability.{is_fixed}
@@ -12,7 +13,7 @@ use Rattle.scim_value.specs.Resource.{IsResource, HasBase}
 use Rattle.scim_body.specs.declared.drafts.UseFor.TheVariants.{Creating}
 use Rattle.scim_body.specs.Drafts.{Draft, IsDraft, lacks_required}
 use Rattle.scim_change.specs.Create.{created}
-use Rattle.scim_change.specs.Replace.{changes, replaced, with_units}
+use Rattle.scim_change.specs.Replace.{changes, replaced, takes, taken, with_units}
 use Rattle.scim_change.proofs.CreateLemmas as making
 use Rattle.scim_change.proofs.ReplaceLemmas as replacing
 
@@ -32,11 +33,13 @@ pub replaced_sound : (d : Draft) → IsDraft d → (us : List AttributeUnit) (c 
 replaced_sound d is us c kinds writable moment there base sound x e =
     elim (cases_Bool (changes d us (rows c))) [
       | inr n ↦ let same : Some c ≡ Some x = sym (replacing.as_it_was d us moment c n) ∙ e in (let own : c ≡ x = cc in subst (IsSound base) own sound)
-      | inl t ↦ elim (cases_Bool (lacks_required c.kind (with_units d us (rows c)))) [
+      | inl t ↦ elim (cases_Bool (lacks_required c.kind (with_units d (taken d us) (rows c)))) [
         | inl lacks ↦ absurd (let none = sym (replacing.refused d us moment c t lacks) ∙ e in cc)
         | inr all ↦
             let same = sym (replacing.complete d us moment c t all) ∙ e in
-            let own : replacing.whole_part d is us c sound.0 kinds moment there ≡ x = cc in
-            subst (IsSound base) own (replacing.is_resource d is us c sound.0 kinds moment there writable all, replacing.base_kept d is us c sound.0 kinds moment there writable base sound.1)
+            let own : replacing.whole_part d is (taken d us) c sound.0 kinds moment there ≡ x = cc in
+            let free = All-filter (takes d) (λ u. is_fixed c.kind u ≡ false) us writable in
+            subst (IsSound base) own
+            (replacing.is_resource d is (taken d us) c sound.0 kinds moment there free all, replacing.base_kept d is (taken d us) c sound.0 kinds moment there free base sound.1)
       ]
     ]

@@ -24,7 +24,7 @@ use Rattle.scim_value.specs.Resource.{first_at, IsFilled, IsNamedAs, MayBeKept, 
 use Rattle.scim_value.proofs.Facts.{get_cell, part_content, put_sound, rows_content, sound_part}
 use Rattle.scim_body.specs.Drafts.{Draft, MayBeGiven, IsDraft, lacks_required}
 use Rattle.scim_change.specs.Create.{meta_row}
-use Rattle.scim_change.specs.Replace.{with_units, changes, modified_at, replaced}
+use Rattle.scim_change.specs.Replace.{with_units, taken, changes, modified_at, replaced}
 use Rattle.scim_change.proofs.RowLemmas.{has_last_modified, one_field}
 use Rattle.scim_change.proofs.NameLemmas.{IsSimple, has_row, told_by_values, found_in, required_there, user_name, display_name}
 use Rattle.scim_change.proofs.CreateLemmas.{filled, kept_field, one_kept, last_modified_kept}
@@ -201,12 +201,12 @@ module _ (d : Draft) (us : List AttributeUnit) (moment : ℕ) (c : Content) wher
   as_it_was e = rw e refl
 
   -- a required attribute would be missing
-  pub refused : changes d us (rows c) ≡ true → lacks_required c.kind (with_units d us (rows c)) ≡ true → replaced d us moment c ≡ None
+  pub refused : changes d us (rows c) ≡ true → lacks_required c.kind (with_units d (taken d us) (rows c)) ≡ true → replaced d us moment c ≡ None
   unfolding replaced
   refused e f = rw (e, f) refl
 
   -- it has the values that it is given
-  pub complete : changes d us (rows c) ≡ true → lacks_required c.kind (with_units d us (rows c)) ≡ false
-      → replaced d us moment c ≡ Some (content c.kind c.id (modified_at moment (with_units d us (rows c))))
+  pub complete : changes d us (rows c) ≡ true → lacks_required c.kind (with_units d (taken d us) (rows c)) ≡ false
+      → replaced d us moment c ≡ Some (content c.kind c.id (modified_at moment (with_units d (taken d us) (rows c))))
   unfolding replaced
   complete e f = rw (e, f) refl

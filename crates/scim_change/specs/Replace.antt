@@ -1,5 +1,5 @@
 -- The resource that results from replacing units by a draft (RFC 7644 section 3.5.1).
-use Rattle.std.specs.Prelude.{ℕ, Bool, not, ◌&&◌, ◌||◌, List, [], ◌∷◌, Option, None, Some, if◌then◌else◌}
+use Rattle.std.specs.Prelude.{ℕ, Bool, not, ◌||◌, List, [], ◌∷◌, filter, Option, None, Some, if◌then◌else◌}
 use Rattle.std.specs.List.{list_any}
 use Rattle.scim_schema.specs.declared.Unit.{Unit as AttributeUnit}
 use Rattle.scim_schema.specs.declared.Attribute.TheVariants.{Meta}
@@ -18,13 +18,21 @@ abbrev pub with_units : Draft → List AttributeUnit → List Row → List Row
 with_units d [] rs = rs
 with_units d (u ∷ us) rs = with_units d us (put_values u (values u d.rows) rs)
 
--- whether the draft and the rows have different values of a unit, or the unit is writeOnly and the body has a
--- value for it
-abbrev pub changes_unit : Draft → List Row → AttributeUnit → Bool
-changes_unit d rs u = not (are_same_values (values u rs) (values u d.rows)) || (is_secret d.kind u && gives d u)
+-- whether the draft replaces the values of a unit: a writeOnly unit keeps its values unless the body has a value
+-- for it, since a client that can't read them can't give them again
+abbrev pub takes : Draft → AttributeUnit → Bool
+takes d u = gives d u || not (is_secret d.kind u)
 
--- whether one of these units has different values in the draft and the rows, or is writeOnly and has a value
--- in the body
+-- those of these units whose values the draft replaces
+abbrev pub taken : Draft → List AttributeUnit → List AttributeUnit
+taken d us = filter (takes d) us
+
+-- whether the draft changes a unit: the draft and the rows have different values of it, or, if the unit is
+-- writeOnly, the body has a value for it
+abbrev pub changes_unit : Draft → List Row → AttributeUnit → Bool
+changes_unit d rs u = if is_secret d.kind u then gives d u else not (are_same_values (values u rs) (values u d.rows))
+
+-- whether the draft changes one of these units
 abbrev pub changes : Draft → List AttributeUnit → List Row → Bool
 changes d us rs = list_any (changes_unit d rs) us
 
@@ -37,7 +45,8 @@ modified_at moment rs = put_values (unit_of (leaf_at Meta LastModified)) (meta_r
 abbrev pub if_complete : ℕ → Content → List Row → Option Content
 if_complete moment c rs = if lacks_required c.kind rs then None else Some (content c.kind c.id (modified_at moment rs))
 
--- the resource with the draft's values of these units and `meta.lastModified` set to `moment`; the unchanged
--- resource if the draft changes nothing; None if a required attribute would be missing
+-- the resource with the draft's values of those of these units that the draft replaces, and `meta.lastModified`
+-- set to `moment`; the unchanged resource if the draft changes nothing; None if a required attribute would be
+-- missing
 unfoldable pub replaced : Draft → List AttributeUnit → ℕ → Content → Option Content
-replaced d us moment c = if changes d us (rows c) then if_complete moment c (with_units d us (rows c)) else Some c
+replaced d us moment c = if changes d us (rows c) then if_complete moment c (with_units d (taken d us) (rows c)) else Some c

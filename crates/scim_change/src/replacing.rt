@@ -31,9 +31,11 @@ pub struct Changed {
 pub struct MissingRequired;
 
 /// Replaces the resource's values of `units` by the draft's values (RFC 7644 section 3.5.1).
-/// A unit without a value in the draft is cleared. Other units keep their values, but `meta.lastModified`
-/// becomes `moment`. If the draft has the same values of `units` as the resource, and its body had no value
-/// for a writeOnly unit among them, the resource is returned unchanged, including `meta.lastModified`.
+/// A unit without a value in the draft is cleared. A writeOnly unit for which the body has no value keeps its
+/// value instead, since a client that can't read it can't give it again. Other units keep their values, but
+/// `meta.lastModified` becomes `moment`. If the draft has the same values of `units` as the resource, and its
+/// body had no value for a writeOnly unit among them, the resource is returned unchanged, including
+/// `meta.lastModified`.
 ///
 /// The draft must be of the resource's kind, and none of the units may be readOnly. Fails with
 /// `MissingRequired` if an attribute that the kind requires would be missing. On an error the resource is
@@ -72,8 +74,7 @@ pub fn replace(
     })
 }
 
-/// Whether one of the units has different values in the draft and the part, or is writeOnly and has a value
-/// in the body.
+/// Whether the draft changes one of the units of the part.
 fn changes(draft: &Draft, units: &[Unit], part: &Part) -> bool
     ensures { result ≡ spec.changes draft.now units.now (rows part.now) }
 {
@@ -85,16 +86,26 @@ fn changes(draft: &Draft, units: &[Unit], part: &Part) -> bool
     false
 }
 
-/// Whether the draft and the part have different values of the unit, or the unit is writeOnly and the body
-/// has a value for it.
+/// Whether the draft changes the unit: the draft and the part have different values of it, or, if the unit is
+/// writeOnly, the body has a value for it.
 fn changes_unit(draft: &Draft, part: &Part, unit: Unit) -> bool
     ensures { result ≡ spec.changes_unit draft.now (rows part.now) unit }
 {
+    if mutability_of(draft.kind(), unit) == Mutability::WriteOnly {
+        return draft.gives(unit);
+    }
     part.values(unit) != draft.values(unit)
-        || (mutability_of(draft.kind(), unit) == Mutability::WriteOnly && draft.gives(unit))
 }
 
-/// Returns the part with its values of `units` replaced by the draft's values.
+/// Whether the draft replaces the values of the unit: a writeOnly unit keeps its values unless the body has a
+/// value for it.
+fn takes(draft: &Draft, unit: Unit) -> bool
+    ensures { result ≡ spec.takes draft.now unit }
+{
+    draft.gives(unit) || mutability_of(draft.kind(), unit) != Mutability::WriteOnly
+}
+
+/// Returns the part with its values of those of `units` that the draft replaces replaced by the draft's values.
 fn with_units(
     alloc: Global,
     mut part: Part,
@@ -102,7 +113,8 @@ fn with_units(
     units: &[Unit],
 ) -> Result<Part, NoMemory>
     requires { draft.now.kind ≡ part.kind }
-    ensures rows { IfOk result (λ p. rows p ≡ spec.with_units draft.now units.now (rows part)) }
+    ensures rows { IfOk result (λ p. rows p ≡ spec.with_units draft.now
+        (spec.taken draft.now units.now) (rows part)) }
     ensures kind { IfOk result (λ p. p.kind ≡ part.kind) }
     ensures id { IfOk result (λ p. p.id ≡ part.id) }
     ensures valid { IfOk result (λ p. IsDraft draft.now) }
@@ -110,7 +122,9 @@ fn with_units(
     // This call lets the proof use that the draft is valid.
     let given = draft.rows();
     for unit in units {
-        part = put_given(alloc, part, given, *unit)?;
+        if takes(draft, *unit) {
+            part = put_given(alloc, part, given, *unit)?;
+        }
     }
     Ok(part)
 }

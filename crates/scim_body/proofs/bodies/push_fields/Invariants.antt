@@ -5,4 +5,4 @@ use Rattle.scim_body.proofs.bodies.push_fields.Given as goal
 
 -- the fields so far are pushed
 abbrev pub invariant-loop-field : goal.invariant-loop-field
-invariant-loop-field l = units_given l.given.items ≡ units_given l.fn.given.items ++ map (field_given l.kind) l.yielded
+invariant-loop-field l = units_given l.given.items ≡ units_given l.fn.given.items ++ map field_given l.yielded
