@@ -14,7 +14,7 @@ use Rattle.scim_schema.specs.declared.SubAttribute.{SubAttribute}
 use Rattle.scim_schema.specs.declared.Leaf.{Leaf}
 use Rattle.scim_schema.specs.declared.Unit.{Unit as AttributeUnit}
 use Rattle.scim_schema.specs.Characteristics.{is_multi_valued}
-use Rattle.scim_schema.specs.Mutability.{is_write_only, is_fixed}
+use Rattle.scim_schema.specs.Mutability.{is_dropped, is_fixed}
 use Rattle.scim_schema.specs.Table.{attributes, sub_attributes, leaves, leaves_with, HasLeaf}
 use Rattle.scim_schema.specs.Units.{leaf_at, whole, unit_of, is_same_unit, units_of, units}
 use Rattle.scim_schema.proofs.Facts.{is_same_unit-Decides}
@@ -71,9 +71,9 @@ whole_there kind a c many =
     let one : units_of a ≡ whole a ∷ [] = ap (λ (b : Bool). if b then whole a ∷ [] else map unit_of (leaves_with a (sub_attributes a))) many in
     unit_there kind a (whole a) c (subst (λ us. Contains us (whole a)) (sym one) (zero, omega arith, refl))
 
--- the unit of each leaf is one, and what isn't kept isn't required
+-- the unit of each leaf is one, and what is dropped isn't required
 abbrev leaf_passes : Kind → Leaf → Bool
-leaf_passes kind l = list_any (λ u. is_same_unit u (unit_of l)) (units kind) && (not (is_write_only kind l) || not (is_required kind (unit_of l)))
+leaf_passes kind l = list_any (λ u. is_same_unit u (unit_of l)) (units kind) && (not (is_dropped l) || not (is_required kind (unit_of l)))
 
 leaves_pass : (kind : Kind) → list_all (leaf_passes kind) (leaves kind) ≡ true
 unfolding units
@@ -98,8 +98,8 @@ not_required true true h t u = true≢false (sym h)
 not_required true false h t u = true≢false (sym u)
 not_required false b h t u = true≢false (sym t)
 
-pub secret_free : (kind : Kind) (l : Leaf) → HasLeaf kind l → is_write_only kind l ≡ true → is_required kind (unit_of l) ≡ true → ⊥
-secret_free kind l there secret needed = not_required _ _ (both_true _ _ (leaf_fact kind l there)).1 secret needed
+pub dropped_free : (kind : Kind) (l : Leaf) → HasLeaf kind l → is_dropped l ≡ true → is_required kind (unit_of l) ≡ true → ⊥
+dropped_free kind l there dropped needed = not_required _ _ (both_true _ _ (leaf_fact kind l there)).1 dropped needed
 
 -- no multi-valued attribute is required
 abbrev many_passes : Kind → Attribute → Bool
@@ -133,13 +133,13 @@ all_cleared_sound kind a c =
 -- ---- given values
 
 -- a field of a single-valued attribute that is set
-pub set_sound : (kind : Kind) (a : Attribute) (f : Field) → is_multi_valued a ≡ false → IsSingle kind a f → IsStep kind (set_to (field_given kind f))
-set_sound kind a f single h = elim (cases_Bool (is_write_only kind f.leaf)) [
-  | inl secret ↦ (let own : AreGivenValues kind (unit_of f.leaf) [] = record {
+pub set_sound : (kind : Kind) (a : Attribute) (f : Field) → is_multi_valued a ≡ false → IsSingle kind a f → IsStep kind (set_to (field_given f))
+set_sound kind a f single h = elim (cases_Bool (is_dropped f.leaf)) [
+  | inl dropped ↦ (let own : AreGivenValues kind (unit_of f.leaf) [] = record {
     own = record { few = inr (omega arith); own = All-nil (IsValue kind (unit_of f.leaf)) };
     may_be_given = All-nil (λ (r : Row). All (MayBeGiven kind) r.fields);
   } in
-      rw secret (leaf_there kind f.leaf h.of_kind, (own, λ needed. absurd (secret_free kind f.leaf h.of_kind secret needed))))
+      rw dropped (leaf_there kind f.leaf h.of_kind, (own, λ needed. absurd (dropped_free kind f.leaf h.of_kind dropped needed))))
   | inr kept ↦ (let row = single_row kind a f single h kept in
       let own : AreGivenValues kind (unit_of f.leaf) (row_with f ∷ []) = record {
         own = record { few = inr (omega arith); own = All-cons (IsValue kind (unit_of f.leaf)) (row_with f) [] (refl, row.full, row.own) (All-nil (IsValue kind (unit_of f.leaf))) };

@@ -73,17 +73,17 @@ module _ (kind : Kind) (a : Attribute) (c : Contains (attributes kind) a) where
 
   -- what is given of it, where it has one value
   module _ (writable : is_read_only kind (simple a) ≡ false) where
-    all_set : (fs : List Field) → is_multi_valued a ≡ false → All (IsSingle kind a) fs → All (IsStep kind) (map set_to (map (field_given kind) fs))
+    all_set : (fs : List Field) → is_multi_valued a ≡ false → All (IsSingle kind a) fs → All (IsStep kind) (map set_to (map field_given fs))
     all_set fs single own =
-        All-map (IsStep kind) set_to (map (field_given kind) fs)
-        (All-map (λ g. IsStep kind (set_to g)) (field_given kind) fs (All-weaker (IsSingle kind a) (λ f. IsStep kind (set_to (field_given kind f))) (λ f h. set_sound kind a f single h) fs own))
+        All-map (IsStep kind) set_to (map field_given fs)
+        (All-map (λ g. IsStep kind (set_to g)) field_given fs (All-weaker (IsSingle kind a) (λ f. IsStep kind (set_to (field_given f))) (λ f h. set_sound kind a f single h) fs own))
 
     simple_set : (d : Data) (gs : List Given) → is_multi_valued a ≡ false → sub_attributes a ≡ [] → simple_given kind a d ≡ Some gs → All (IsStep kind) (map set_to gs)
     simple_set d gs single none h =
         let t = (characteristics_of kind (simple a)).attribute_type in
-        let x = chained (named_given kind a) (given_atom t d) gs h in
+        let x = chained (named_given a) (given_atom t d) gs h in
         let f : Field = record { leaf = simple a; atom = x.0 } in
-        let kept = not_refused (sameb the_attribute a UserName && is_empty x.0) (field_given kind f ∷ []) gs x.2 in
+        let kept = not_refused (sameb the_attribute a UserName && is_empty x.0) (field_given f ∷ []) gs x.2 in
         let atom = atom_given t d x.0 (simple_no_moment kind a) x.1 in
         let own : IsSingle kind a f
         = record { of_attribute = refl; writable = writable; short = atom.1; filled = filled a x.0 kept.0; of_kind = has_simple kind a c none; typed = atom.0 } in
@@ -91,7 +91,7 @@ module _ (kind : Kind) (a : Attribute) (c : Contains (attributes kind) a) where
 
     complex_set : (d : Data) (gs : List Given) → is_multi_valued a ≡ false → complex_given kind a d ≡ Some gs → All (IsStep kind) (map set_to gs)
     complex_set d gs single h =
-        let m = mapped (map (field_given kind)) (fields_of kind a d) gs h in
+        let m = mapped (map field_given) (fields_of kind a d) gs h in
         let fields = fields_given kind a d m.0 c writable m.1 in
         let own : All (IsSingle kind a) m.0 = λ i e l. (let o = fields.own i e l in record {
           of_attribute = ap (λ (l : Leaf). l.attribute) o.1.leaf;
@@ -174,7 +174,7 @@ module _ (kind : Kind) (a : Attribute) (b : SubAttribute) (c : Contains (attribu
       typed = o.typed;
     }
 
-    one_set : (f : Field) → IsOf kind a b f → IsStep kind (sub_attribute_set kind a f)
+    one_set : (f : Field) → IsOf kind a b f → IsStep kind (sub_attribute_set a f)
     one_set f o = elim (cases_Bool (is_multi_valued a)) [
       | inl many ↦ rw many (whole_there kind a c many, field_sound kind a b f many o)
       | inr single ↦ rw single (set_sound kind a f single (single_of f o))
@@ -186,8 +186,8 @@ module _ (kind : Kind) (a : Attribute) (b : SubAttribute) (c : Contains (attribu
         subst (All (IsStep kind)) m.2 (All-map (IsStep kind) to m.0 (All-weaker (IsOf kind a b) (λ f. IsStep kind (to f)) may m.0 (is_of e m.0 m.1)))))
 
     given_at : (op : Operation) (e : Data) → Sound kind (sub_attribute_given kind op a b e)
-    given_at Add e = each_set e (sub_attribute_set kind a) one_set
-    given_at Replace e = each_set e (sub_attribute_set kind a) one_set
+    given_at Add e = each_set e (sub_attribute_set a) one_set
+    given_at Replace e = each_set e (sub_attribute_set a) one_set
     given_at Remove e = cleared_sound
 
     emptied_at : (op : Operation) → All (IsStep kind) (one (unit_of (leaf_at a b)) (sub_attribute_emptied op a b))

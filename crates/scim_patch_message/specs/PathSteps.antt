@@ -135,8 +135,8 @@ abbrev pub sub_attribute_cleared : Attribute → SubAttribute → StepChange
 sub_attribute_cleared a b = if is_multi_valued a then ClearEverywhere b else Clear
 
 -- the step that sets a sub-attribute; if the attribute is multi-valued, in each of its values
-abbrev pub sub_attribute_set : Kind → Attribute → Field → Step
-sub_attribute_set kind a f = if is_multi_valued a then Of (whole a) (SetEverywhere f) else set_to (field_given kind f)
+abbrev pub sub_attribute_set : Attribute → Field → Step
+sub_attribute_set a f = if is_multi_valued a then Of (whole a) (SetEverywhere f) else set_to (field_given f)
 
 -- the change that an operation without a value makes to a sub-attribute
 abbrev pub sub_attribute_emptied : Operation → Attribute → SubAttribute → StepChange
@@ -147,8 +147,8 @@ sub_attribute_emptied Remove a b = sub_attribute_cleared a b
 -- the steps of an operation with a value whose target is a sub-attribute
 abbrev pub sub_attribute_given : Kind → Operation → Attribute → SubAttribute → Data → Read
 sub_attribute_given kind Remove a b d = Ok (one (unit_of (leaf_at a b)) (sub_attribute_cleared a b))
-sub_attribute_given kind Add a b d = value_read false (option_map (map (sub_attribute_set kind a)) (field_with kind a b d))
-sub_attribute_given kind Replace a b d = value_read false (option_map (map (sub_attribute_set kind a)) (field_with kind a b d))
+sub_attribute_given kind Add a b d = value_read false (option_map (map (sub_attribute_set a)) (field_with kind a b d))
+sub_attribute_given kind Replace a b d = value_read false (option_map (map (sub_attribute_set a)) (field_with kind a b d))
 
 -- the steps of an operation whose target is a sub-attribute that isn't readOnly
 abbrev pub writable_sub_attribute_steps : Kind → Operation → Attribute → SubAttribute → Option Data → Read

@@ -69,7 +69,7 @@ fn push_sub_attribute_set(
     if is_multi_valued(attribute) {
         return reading.push(Unit::whole(attribute), StepChange::SetEverywhere(field));
     }
-    let given = field_given(alloc, kind, field)?;
+    let given = field_given(alloc, field)?;
     reading.push(given.unit, StepChange::Replace(given.values))
 }
 

@@ -40,7 +40,7 @@ step_at kind (s ∷ steps) zero d h l = All-head (IsStep kind) (step_of s) (map 
 step_at kind (s ∷ steps) (suc k) d h l = step_at kind steps k d (All-tail (IsStep kind) (step_of s) (map step_of steps) h) (omega (arith, l))
 
 -- a fault stays
-fault_stays : (kind : Kind) (steps : List Step) (e : StepFault) → all_stepped kind steps (Err e) ≡ Err e
+pub fault_stays : (kind : Kind) (steps : List Step) (e : StepFault) → all_stepped kind steps (Err e) ≡ Err e
 fault_stays kind [] e = refl
 fault_stays kind (s ∷ steps) e = refl
 

@@ -1,5 +1,5 @@
 -- Fields of one value that a resource may keep: put in their place, given over others, taken away.
-use Rattle.std.proofs.Common.{◌≡◌, ◌≢◌, ◌≤◌, ◌<◌, ◌∙◌, ℕ, zero, suc, Bool, true, false, refl, sym, ap, subst, arith, inl, inr, true≢false, List, [], ◌∷◌, ◌++◌, length, filter}
+use Rattle.std.proofs.Common.{◌≡◌, ◌≢◌, ◌≤◌, ◌<◌, ◌∙◌, ℕ, zero, suc, Bool, true, false, refl, sym, ap, subst, arith, inl, inr, List, [], ◌∷◌, ◌++◌, length, filter}
 use Rattle.std.specs.Prelude.{Option, None, Some, option_map, option_and_then, nat_le, if◌then◌else◌, All, AllPairs, Contains, not, ◌&&◌, ◌||◌}
 use Rattle.std.specs.List.{list_all, list_any}
 use Rattle.std.specs.declared.cmp.Ordering.{Ordering}
@@ -13,7 +13,7 @@ use Rattle.std.proofs.lemmas.List.Elements.{All-nil, All-cons, All-head, All-tai
 use Rattle.std.proofs.lemmas.List.Kept.{AllPairs-cons, AllPairs-filter}
 use Rattle.std.proofs.lemmas.List.Sums.{AllPass-from_list_all}
 use Rattle.std.proofs.lemmas.Map.Views.{Contains-from_any}
-use denote.Enum.Bare.{sameb, true_same}
+use denote.Enum.Bare.{sameb}
 use Rattle.scim_schema.specs.declared.Kind.{Kind}
 use Rattle.scim_schema.specs.declared.Kind.TheVariants.{User, Group}
 use Rattle.scim_schema.specs.declared.Attribute.TheVariants.{Groups}
@@ -23,11 +23,9 @@ use Rattle.scim_schema.specs.declared.SubAttribute.TheVariants.{Primary}
 use Rattle.scim_schema.specs.declared.Unit.{Unit as AttributeUnit}
 use Rattle.scim_schema.specs.declared.characteristics.AttributeType.{AttributeType}
 use Rattle.scim_schema.specs.declared.characteristics.AttributeType.TheVariants.{String, Boolean, Reference, Binary}
-use Rattle.scim_schema.specs.declared.characteristics.Mutability.TheVariants.{WriteOnly}
 use Rattle.scim_schema.specs.contracts.SubAttribute.{the_type as the_sub_attribute}
-use Rattle.scim_schema.specs.contracts.characteristics.Mutability.{the_type as the_mutability}
 use Rattle.scim_schema.specs.Characteristics.{characteristics_of, sub_attribute_characteristics, is_multi_valued}
-use Rattle.scim_schema.specs.Mutability.{is_fixed, is_write_only}
+use Rattle.scim_schema.specs.Mutability.{is_fixed, is_dropped}
 use Rattle.scim_schema.specs.Table.{leaves, sub_attributes, HasLeaf}
 use Rattle.scim_schema.specs.Units.{whole, units, unit_of, leaf_at, is_same_leaf, is_same_unit}
 use Rattle.scim_schema.proofs.Facts.{and_first, and_second, is_same_unit-Decides, leaf_one, sub_attribute_one}
@@ -245,7 +243,7 @@ module _ (kind : Kind) (u : AttributeUnit) (r : Row) (own : IsValueOf kind u r) 
       let f = found.0 in
       let told : HasType (characteristics_of kind f.leaf).attribute_type (Truth true) = subst (HasType (characteristics_of kind f.leaf).attribute_type) found.3 found.1.0.2 in
       let made : IsKeptField kind u (record { leaf = f.leaf; atom = Truth false })
-      = ((found.1.0.0, found.1.0.1, either_truth _ true false told), record { own = found.1.1.own; shown = found.1.1.shown; short = λ n. tt }) in
+      = ((found.1.0.0, found.1.0.1, either_truth _ true false told), record { own = found.1.1.own; stored = found.1.1.stored; short = λ n. tt }) in
       subst (λ l. IsKeptField kind u (record { leaf = l; atom = Truth false })) found.2 made
 
   -- a value whose `primary` becomes false where it is true
@@ -273,13 +271,13 @@ demoted_full r h = elim (cases_Bool (is_primary r)) [
 pub passes_in : {X : Type 0} (p : X → Bool) (xs : List X) (x : X) → list_all p xs ≡ true → Contains xs x → p x ≡ true
 passes_in p xs x h c = subst (λ y. p y ≡ true) c.2 (AllPass-from_list_all p xs h c.0 x c.1)
 
--- whether the kind has the leaf, and shows it
-abbrev is_shown : Kind → Leaf → Bool
-is_shown kind l = list_any (is_same_leaf l) (leaves kind) && not (is_write_only kind l)
+-- whether the kind has the leaf, and stores it
+abbrev is_stored : Kind → Leaf → Bool
+is_stored kind l = list_any (is_same_leaf l) (leaves kind) && not (is_dropped l)
 
--- whether a unit is a whole attribute, whose sub-attributes the kind has and shows
+-- whether a unit is a whole attribute, whose sub-attributes the kind has and stores
 abbrev is_plain : Kind → AttributeUnit → Bool
-is_plain kind u = is_same_unit u (whole u.attribute) && list_all (λ b. is_shown kind (leaf_at u.attribute b)) (sub_attributes u.attribute)
+is_plain kind u = is_same_unit u (whole u.attribute) && list_all (λ b. is_stored kind (leaf_at u.attribute b)) (sub_attributes u.attribute)
 
 -- each unit with several values is
 all_plain : (kind : Kind) → list_all (λ u. not (is_multi_valued u.attribute) || is_plain kind u) (units kind) ≡ true
@@ -312,7 +310,7 @@ atom_described _ _ atom h = absurd (cc h)
 -- ---- the value that a filter describes
 
 module _ (kind : Kind) (u : AttributeUnit) (of_kind : Contains (units kind) u) (free : is_fixed kind u ≡ false) (many : is_multi_valued u.attribute ≡ true) where
-  -- the unit is a whole attribute, with sub-attributes of the kind that are shown
+  -- the unit is a whole attribute, with sub-attributes of the kind that are stored
   plain : is_plain kind u ≡ true
   plain = rw many at (passes_in (λ v. not (is_multi_valued v.attribute) || is_plain kind v) (units kind) u (all_plain kind) of_kind)
 
@@ -333,14 +331,13 @@ module _ (kind : Kind) (u : AttributeUnit) (of_kind : Contains (units kind) u) (
       let l = leaf_at u.attribute b in
       let among : Contains (sub_attributes u.attribute) b
       = Contains-from_any {eq = λ x y. sameb the_sub_attribute y x} (λ x y e. sym (sub_attribute_one y x e)) b (sub_attributes u.attribute) has in
-      let shown : is_shown kind l ≡ true = passes_in (λ c. is_shown kind (leaf_at u.attribute c)) (sub_attributes u.attribute) b (and_second _ _ plain) among in
-      let there : HasLeaf kind l = Contains-from_any {eq = is_same_leaf} leaf_one l (leaves kind) (and_first _ _ shown) in
-      let open_leaf : is_write_only kind l ≡ false = not_flip _ (and_second _ _ shown) in
+      let stored : is_stored kind l ≡ true = passes_in (λ c. is_stored kind (leaf_at u.attribute c)) (sub_attributes u.attribute) b (and_second _ _ plain) among in
+      let there : HasLeaf kind l = Contains-from_any {eq = is_same_leaf} leaf_one l (leaves kind) (and_first _ _ stored) in
       let one : unit_of l ≡ u = ap (λ (m : Bool). record { attribute = u.attribute; sub_attribute = if m then None else Some b }) many ∙ sym whole_unit in (
         (one, there, given.0),
         record {
           own = no_groups;
-          shown = λ e. absurd (true≢false (sym (true_same the_mutability _ WriteOnly e) ∙ open_leaf));
+          stored = not_flip _ (and_second _ _ stored);
           short = λ n. given.1;
         },
       )

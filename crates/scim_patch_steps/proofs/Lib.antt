@@ -6,6 +6,7 @@ pub mod PrimaryLemmas
 pub mod FieldLemmas
 pub mod SoundLemmas
 pub mod SingleLemmas
+pub mod SecretLemmas
 pub mod StepLemmas
 pub mod WorkLemmas
 pub mod GroupLemmas

@@ -37,7 +37,7 @@ use Rattle.scim_patch_steps.proofs.Stand.{NamesAs, MayStand}
 
 module _ (kind : Kind) (u : AttributeUnit) where
   -- of what isn't multi-valued there is no member
-  no_member : is_multi_valued u.attribute ≡ false → is_members u.attribute ≡ false
+  pub no_member : is_multi_valued u.attribute ≡ false → is_members u.attribute ≡ false
   no_member single = elim (cases_Bool (is_members u.attribute)) [
     | inl t ↦ (let e = same_true the_attribute tt u.attribute Members t in let many : is_multi_valued u.attribute ≡ true = ap is_multi_valued e in cc)
     | inr n ↦ n

@@ -96,15 +96,20 @@ set_in (Of u change) = set_blocks change
 abbrev pub size_during : ℕ → ℕ → List Row → ℕ
 size_during size set vs = size_of vs + size + (length vs + size) * set
 
+-- the values of a unit that count for the work of a patch: those of a writeOnly unit don't, since a patch that is
+-- refused for its work would tell how long they are
+unfoldable pub counted : Kind → List Row → AttributeUnit → List Row
+counted kind rs u = if is_secret kind u then [] else values u rs
+
 -- the work of a step in such a patch of rows: its looks at the values of its unit, and a fixed number for all
 -- else that it does
-abbrev pub step_work : ℕ → ℕ → List Row → Step → ℕ
-step_work size set rs Pathless = 0
-step_work size set rs (Of u change) = looks change * size_during size set (values u rs) + STEP
+abbrev pub step_work : Kind → ℕ → ℕ → List Row → Step → ℕ
+step_work kind size set rs Pathless = 0
+step_work kind size set rs (Of u change) = looks change * size_during size set (counted kind rs u) + STEP
 
 -- the work of a patch on rows: that of all its steps
 abbrev pub work : Patch → List Row → ℕ
-work p rs = sum_by (step_work (sum_by given_in p.steps) (sum_by set_in p.steps) rs) p.steps
+work p rs = sum_by (step_work p.kind (sum_by given_in p.steps) (sum_by set_in p.steps) rs) p.steps
 
 -- whether the work of a patch on rows is within the limit
 abbrev pub is_within_limit : Patch → List Row → Bool
@@ -140,7 +145,7 @@ abbrev pub writes : StepChange → Bool
 writes Keep = false
 writes _ = true
 
--- whether a step writes to a writeOnly unit, whose values aren't stored (RFC 7643 section 2.2)
+-- whether a step writes to a writeOnly unit, which no client may read (RFC 7643 section 2.2)
 abbrev pub is_unseen_writing : Kind → Step → Bool
 is_unseen_writing kind Pathless = false
 is_unseen_writing kind (Of u change) = is_secret kind u && writes change

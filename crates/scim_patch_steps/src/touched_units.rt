@@ -110,7 +110,7 @@ fn writes(change: &StepChange) -> bool
     }
 }
 
-/// Whether the step writes to a writeOnly unit. The values of writeOnly units aren't stored.
+/// Whether the step writes to a writeOnly unit, which no client may read.
 fn is_unseen_writing(kind: Kind, step: &Step) -> bool
     ensures { result ≡ spec.is_unseen_writing kind (step_of step.now) }
 {

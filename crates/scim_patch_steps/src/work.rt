@@ -13,6 +13,7 @@ use crate::changes::StepChange;
 use crate::patches::{Patch, Step};
 use scim_cell::{Atom, Field, Row};
 use scim_filter_grammar::{Filter, Literal, Node};
+use scim_schema::{Kind, Mutability, Unit, mutability_of};
 use scim_value::Part;
 
 /// The largest work of a patch: how often its steps look at a value of ordinary size. A look takes some 80
@@ -192,16 +193,28 @@ fn size_during(given: usize, set: usize, values: &[Row]) -> usize
     size_of(values).saturating_add(given).saturating_add(grown)
 }
 
+/// The values of a unit that count for the work of a patch. Those of a writeOnly unit don't, since a patch that is
+/// refused for its work would tell how long they are.
+#[tactic(auto, unfolding(crate::specs::Patch::counted))]
+fn counted(kind: Kind, part: &Part, unit: Unit) -> &[Row]
+    ensures { result.now ≡ patches.counted kind (rows part.now) unit }
+{
+    if mutability_of(kind, unit) == Mutability::WriteOnly {
+        return &[];
+    }
+    part.values(unit)
+}
+
 /// The work of a step in such a patch of `part`: its looks at the values of its unit, and a fixed number for
 /// all else that it does.
-fn step_work(given: usize, set: usize, part: &Part, step: &Step) -> usize
+fn step_work(kind: Kind, given: usize, set: usize, part: &Part, step: &Step) -> usize
     ensures { (g s : ℕ) → given ≡ capped g → set ≡ capped s
-        → result ≡ capped (patches.step_work g s (rows part.now) (step_of step.now)) }
+        → result ≡ capped (patches.step_work kind g s (rows part.now) (step_of step.now)) }
 {
     match step {
         Step::Pathless => 0,
         Step::Of(unit, change) => {
-            let size = size_during(given, set, part.values(*unit));
+            let size = size_during(given, set, counted(kind, part, *unit));
             looks(change).saturating_mul(size).saturating_add(STEP)
         }
     }
@@ -213,12 +226,13 @@ fn step_work(given: usize, set: usize, part: &Part, step: &Step) -> usize
 pub(crate) fn is_within_limit(patch: &Patch, part: &Part) -> bool
     ensures { result ≡ patches.is_within_limit (patch_of patch.now) (rows part.now) }
 {
+    let kind = patch.kind();
     let steps = patch.steps();
     let given = all_given(steps);
     let set = all_set(steps);
     let mut work: usize = 0;
     for step in steps {
-        work = work.saturating_add(step_work(given, set, part, step));
+        work = work.saturating_add(step_work(kind, given, set, part, step));
         if work > MOST_WORK {
             return false;
         }

@@ -11,6 +11,6 @@ use Rattle.scim_patch_steps.proofs.work.is_within_limit.Given as goal
 -- the work of the steps before this one, which is within the limit
 abbrev pub invariant-loop-step : goal.invariant-loop-step
 invariant-loop-step l = record {
-  so_far : l.work ≡ capped (sum_by (step_work (sum_by given_in (map step_of l.steps)) (sum_by set_in (map step_of l.steps)) (rows l.part)) (map step_of (take l.step-index l.steps)));
+  so_far : l.work ≡ capped (sum_by (step_work l.kind (sum_by given_in (map step_of l.steps)) (sum_by set_in (map step_of l.steps)) (rows l.part)) (map step_of (take l.step-index l.steps)));
   few : l.work ≤ MOST_WORK;
 }
