@@ -1,29 +1,28 @@
 -- A change of what a client may write: where it can't tell two resources apart before, it can't tell them apart afterwards.
 use Rattle.std.proofs.Common.{◌≡◌, refl, sym, ◌∙◌, ap, ap₂, subst, ℕ, Bool, true, false, List, filter, inl, inr, get_or}
 use Rattle.std.specs.Prelude.{All, not, ◌&&◌, ◌||◌, None}
-use Rattle.std.specs.List.{list_any}
+use Rattle.std.specs.List.{list_all, list_any}
 use Rattle.std.specs.Ordering.{is_eq}
 use Rattle.std.proofs.lemmas.Bool.{cases_Bool}
-use Rattle.std.proofs.lemmas.List.Elements.{All-filter, All-weaker}
+use Rattle.std.proofs.lemmas.List.Elements.{All-contains, All-filter, All-weaker}
+use Rattle.std.proofs.lemmas.List.Sums.{AllPass-from_list_all}
 use mathlib.Core.Path.{fun_ext}
-use denote.Enum.Bare.{same_true}
 use Rattle.scim_schema.specs.declared.Kind.{Kind}
 use Rattle.scim_schema.specs.declared.Op.{Op}
 use Rattle.scim_schema.specs.declared.Op.TheVariants.{Read, Modify, Delete}
 use Rattle.scim_schema.specs.declared.Attribute.{Attribute}
 use Rattle.scim_schema.specs.declared.Leaf.{Leaf}
 use Rattle.scim_schema.specs.declared.Unit.{Unit as AttributeUnit}
-use Rattle.scim_schema.specs.declared.characteristics.Mutability.TheVariants.{WriteOnly}
-use Rattle.scim_schema.specs.contracts.characteristics.Mutability.{the_type as the_mutability}
-use Rattle.scim_schema.specs.Mutability.{is_write_only}
-use Rattle.scim_schema.specs.Table.{HasLeaf}
-use Rattle.scim_schema.specs.Characteristics.{characteristics_of}
+use Rattle.scim_schema.specs.declared.Kind.TheVariants.{User, Group}
+use Rattle.scim_schema.specs.Mutability.{is_secret, is_write_only}
+use Rattle.scim_schema.specs.Table.{leaves, HasLeaf}
+use Rattle.scim_schema.specs.Units.{unit_of}
 use Rattle.scim_cell.specs.declared.rows.Field.{Field}
 use Rattle.scim_cell.specs.Content.{Content}
 use Rattle.scim_cell.specs.Place.{unit_cmp}
 use Rattle.scim_cell.specs.Rows.{Row, by_leaf, rows, values, has_fields, restricted, IsSoundField, IsSoundRow}
 use Rattle.scim_cell.proofs.Facts.{AreAlike}
-use Rattle.scim_value.specs.Resource.{IsResource, MayBeKept}
+use Rattle.scim_value.specs.Resource.{IsResource}
 use Rattle.scim_value.proofs.Facts.{sound_part, unit_same}
 use Rattle.scim_policy.specs.Rules.{Rule}
 use Rattle.scim_policy.specs.Access.{Access, access, forbidding, widening}
@@ -33,7 +32,7 @@ use Rattle.scim_policy.specs.Opened.{allows}
 use Rattle.scim_policy.specs.Patterns.{decisions_of, pattern_rules}
 use Rattle.scim_policy.proofs.Facts.{decide_same, patterns_same}
 use Rattle.scim_view.specs.View.{Viewer, may_be_seen, read_pattern}
-use Rattle.scim_change.specs.Laws.{AgreeAt, IsLeft}
+use Rattle.scim_change.specs.Laws.{AgreeAt, AgreeAtOpen, IsLeft}
 use Rattle.scim_noninterference.specs.Names.{ControlRestsOnUnits}
 use Rattle.scim_noninterference.proofs.RowLemmas.{KeepsAll, values_restricted, restricted_kept, restricted_narrower}
 use Rattle.scim_view.proofs.Facts.{narrowed, passing, written_seen as written_leaf_seen}
@@ -48,12 +47,23 @@ sees_some v c l = not (is_write_only c.kind l) && list_any allows (read_pattern 
 abbrev pub access_of : Viewer → Content → Access
 access_of v c = access v.policy v.client c
 
--- nobody reads what isn't kept
-kept_open : (kind : Kind) (f : Field) → MayBeKept kind f → is_write_only kind f.leaf ≡ false
-kept_open kind f kept = elim (cases_Bool (is_write_only kind f.leaf)) [
-  | inl secret ↦ absurd (kept.shown (same_true the_mutability tt (characteristics_of kind f.leaf).mutability WriteOnly secret))
-  | inr open' ↦ open'
-]
+-- a leaf is writeOnly where its unit is
+abbrev is_as_secret : Kind → Leaf → Bool
+is_as_secret kind l = not (is_write_only kind l) || is_secret kind (unit_of l)
+
+all_as_secret : (kind : Kind) → list_all (is_as_secret kind) (leaves kind) ≡ true
+all_as_secret User = refl
+all_as_secret Group = refl
+
+-- so a client may read the leaves of a unit that isn't
+open_leaf : (kind : Kind) (u : AttributeUnit) → is_secret kind u ≡ false → (l : Leaf) → unit_of l ≡ u → HasLeaf kind l → is_write_only kind l ≡ false
+open_leaf kind u open' l at there =
+    let told = All-contains (λ m. is_as_secret kind m ≡ true) (leaves kind) l (AllPass-from_list_all (is_as_secret kind) (leaves kind) (all_as_secret kind)) there in
+    let none : is_secret kind (unit_of l) ≡ false = ap (is_secret kind) at ∙ open' in
+    elim (cases_Bool (is_write_only kind l)) [
+      | inl t ↦ absurd (let e : false ≡ true = rw (t, none) at told in cc)
+      | inr n ↦ n
+    ]
 
 -- ---- what decides after a change
 
@@ -79,39 +89,38 @@ control_rests policy us changed moment a b x y one two three four kinds same agr
         ∙ (λ i. filter (λ (r : Row). decides_by policy (sym (first.kind ∙ kinds) i) r.unit.attribute) (rows b)) ∙ sym (attributes_same (decides_by policy x.kind) b two)
 
 module _ (v : Viewer) where
-  -- ---- a unit that may be written is seen
+  -- ---- a unit that may be written and isn't writeOnly is seen
 
-  module _ (c : Content) (own : IsResource c) (u : AttributeUnit) (free : forbidding c.kind (access_of v c) u ≡ None) where
-    seen_field : (r : Row) → r.unit ≡ u → (f : Field) → IsSoundField c.kind r.unit f → MayBeKept c.kind f → may_see v c r f.leaf ≡ true
-    seen_field r at f is kept =
-        written_leaf_seen v c u free f.leaf (is.0 ∙ at) is.1 (kept_open c.kind f kept) r
+  module _ (c : Content) (own : IsResource c) (u : AttributeUnit) (free : forbidding c.kind (access_of v c) u ≡ None) (open' : is_secret c.kind u ≡ false) where
+    seen_field : (r : Row) → r.unit ≡ u → (f : Field) → IsSoundField c.kind r.unit f → may_see v c r f.leaf ≡ true
+    seen_field r at f is =
+        written_leaf_seen v c u free f.leaf (is.0 ∙ at) is.1 (open_leaf c.kind u open' f.leaf (is.0 ∙ at) is.1) r
 
-    seen_row : (r : Row) → is_eq (unit_cmp r.unit u) ≡ true → IsSoundRow c.kind r → All (MayBeKept c.kind) r.fields → KeepsAll (may_see v c) r
-    seen_row r at is kept = λ k e l. seen_field r (unit_same r.unit u at) (get_or r.fields k e) (is.own k e l) (kept k e l)
+    seen_row : (r : Row) → is_eq (unit_cmp r.unit u) ≡ true → IsSoundRow c.kind r → KeepsAll (may_see v c) r
+    seen_row r at is = λ k e l. seen_field r (unit_same r.unit u at) (get_or r.fields k e) (is.own k e l)
 
     written_seen : restricted (may_see v c) (values u (rows c)) ≡ values u (rows c)
     written_seen =
         let sound = sound_part c own.part in
         let at = passing (λ (r : Row). is_eq (unit_cmp r.unit u)) (rows c) in
         let is = All-filter (λ (r : Row). is_eq (unit_cmp r.unit u)) (IsSoundRow c.kind) (rows c) sound.own in
-        let kept = All-filter (λ (r : Row). is_eq (unit_cmp r.unit u)) (λ r. All (MayBeKept c.kind) r.fields) (rows c) own.may_be_kept in
         restricted_kept (may_see v c) (values u (rows c)) (All-filter (λ (r : Row). is_eq (unit_cmp r.unit u)) (λ r. has_fields r ≡ true) (rows c) sound.full)
-        (λ k e l. seen_row (get_or (values u (rows c)) k e) (at k e l) (is k e l) (kept k e l))
+        (λ k e l. seen_row (get_or (values u (rows c)) k e) (at k e l) (is k e l))
 
-  -- so two resources that the viewer can't tell apart have the same values there
+  -- so two resources that the viewer can't tell apart have the same values of the units that aren't writeOnly
   pub agree_at : (us : List AttributeUnit) (a b : Content) → IsResource a → IsResource b → traits v a ≡ traits v b
-      → All (λ u. forbidding a.kind (access_of v a) u ≡ None) us → AgreeAt us a b
+      → All (λ u. forbidding a.kind (access_of v a) u ≡ None) us → AgreeAtOpen a.kind us a b
   agree_at us a b one two same free =
-      All-weaker (λ u. forbidding a.kind (access_of v a) u ≡ None) (λ u. values u (rows a) ≡ values u (rows b)) by_unit us free
+      All-weaker (λ u. forbidding a.kind (access_of v a) u ≡ None) (λ u. is_secret a.kind u ≡ false → values u (rows a) ≡ values u (rows b)) by_unit us free
     where
       kinds : a.kind ≡ b.kind
       kinds = ap (λ (t : Traits). t.kind) same
 
-      by_unit : (u : AttributeUnit) → forbidding a.kind (access_of v a) u ≡ None → values u (rows a) ≡ values u (rows b)
-      by_unit u e =
+      by_unit : (u : AttributeUnit) → forbidding a.kind (access_of v a) u ≡ None → is_secret a.kind u ≡ false → values u (rows a) ≡ values u (rows b)
+      by_unit u e open' =
           let f : forbidding b.kind (access_of v b) u ≡ None = ap₂ (λ (k : Kind) (x : Access). forbidding k x u) (sym kinds) (sym (access_same v a b same)) ∙ e in
-          sym (written_seen a one u e) ∙ sym (values_restricted (may_see v a) u (rows a)) ∙ ap (λ (t : Traits). values u t.rows) same
-          ∙ values_restricted (may_see v b) u (rows b) ∙ written_seen b two u f
+          sym (written_seen a one u e open') ∙ sym (values_restricted (may_see v a) u (rows a)) ∙ ap (λ (t : Traits). values u t.rows) same
+          ∙ values_restricted (may_see v b) u (rows b) ∙ written_seen b two u f (ap (λ k. is_secret k u) (sym kinds) ∙ open')
 
   -- ---- after the change
 

@@ -27,7 +27,7 @@ use Rattle.scim_body.specs.Drafts.{Draft, IsDraft}
 use Rattle.scim_json.specs.PartData.{part_data}
 use Rattle.scim_change.specs.Create.{created}
 use Rattle.scim_change.specs.Replace.{changes, replaced}
-use Rattle.scim_change.specs.Laws.{AgreeAt, IsLeft, AreAlike as AreReplacedAlike}
+use Rattle.scim_change.specs.Laws.{AgreeAt, AgreeAtOpen, EndsAlike, IsLeft, AreAlike as AreReplacedAlike}
 use Rattle.scim_change.proofs.Facts.{IsSound, replaced_sound, replacing_rests_on_its_units}
 use Rattle.scim_patch_steps.specs.declared.steps.StepFault.{StepFault}
 use Rattle.scim_patch_steps.specs.Patch.{Patch, IsPatch, touched, applied}
@@ -54,6 +54,7 @@ use Rattle.scim_service.proofs.Facts.{Plan, found_holds}
 use Rattle.scim_view.proofs.Facts.{passing, none_denied}
 use Rattle.scim_noninterference.proofs.StoreLemmas.{Traits, AreFound, IsUnseen, traits, seen_traits, access_same, decision_same, found_same, traits_keep, traits_without, views_same, visible_same, with_groups_same}
 use Rattle.scim_noninterference.proofs.NameLemmas.{in_use_absent, in_use_keep_same, names_same, others_same, taken_same}
+use Rattle.scim_noninterference.proofs.UnitLemmas.{settled}
 use Rattle.scim_noninterference.proofs.ChangeLemmas.{access_of, access_after, agree_at, control_after, kinds_after, traits_after}
 
 -- a client can't tell these resources apart
@@ -230,10 +231,10 @@ module _ (v : Viewer) (turn : Turn) (s t : List Content) (like : AreLike v s t) 
 
   -- ---- what comes of it
 
-  outcome_same : (us : List AttributeUnit) (changed : Bool) (a b x y : Content) → AreSought a b → IsSound v.base x → IsSound v.base y
+  agreed_same : (us : List AttributeUnit) (changed : Bool) (a b x y : Content) → AreSought a b → IsSound v.base x → IsSound v.base y
       → AgreeAt us x y → IsLeft us changed turn.moment a x → IsLeft us changed turn.moment b y → (wanted : Wanted)
       → AreAnswers v s t (unique_change_plan v turn s wanted (access_to v a) changed x) (unique_change_plan v turn t wanted (access_to v b) changed y)
-  outcome_same us changed a b x y are three four agree first second wanted =
+  agreed_same us changed a b x y are three four agree first second wanted =
       let kinds = kinds_after v us changed turn.moment a b x y are.one.0 are.two.0 three.0 four.0 are.same agree first second in
       let decides = control_after v us changed turn.moment a b x y are.one.0 are.two.0 three.0 four.0 are.same agree first second in
       let may = access_after v us changed turn.moment a b x y are.one.0 are.two.0 three.0 four.0 are.same agree first second in
@@ -242,6 +243,13 @@ module _ (v : Viewer) (turn : Turn) (s t : List Content) (like : AreLike v s t) 
       changed_same v turn s t like a b x y changed wanted (names_same v.policy x y three.0 four.0 kinds decides) others
       (λ i. widening (kinds i) (access_same v a b are.same i) (may i))
       (traits_after v us changed turn.moment a b x y are.one.0 are.two.0 three.0 four.0 are.same agree first second)
+
+  outcome_same : (kind : Kind) (us : List AttributeUnit) (changed : Bool) (a b x y : Content) → AreSought a b → IsSound v.base x → IsSound v.base y
+      → All (λ u. EndsAlike kind u a b x y) us → IsLeft us changed turn.moment a x → IsLeft us changed turn.moment b y → (wanted : Wanted)
+      → AreAnswers v s t (unique_change_plan v turn s wanted (access_to v a) changed x) (unique_change_plan v turn t wanted (access_to v b) changed y)
+  outcome_same kind us changed a b x y are three four ends first second wanted =
+      let is = settled kind us changed turn.moment a b x y ends first second in
+      agreed_same is.units changed a b x y are three four is.agree is.first is.second wanted
 
   -- ---- what is replaced
 
@@ -254,16 +262,16 @@ module _ (v : Viewer) (turn : Turn) (s t : List Content) (like : AreLike v s t) 
         (complete_change_plan v turn t wanted (access_to v b) (changes d us (rows b)) (replaced d us turn.moment b))
     unfolding rejection_plan
     replaced_same us free open' =
-        let law = replacing_rests_on_its_units d us turn.moment a b is are.one.0 are.two.0 (sym kind) (sym kinds_same ∙ sym kind) (agree_at v us a b are.one.0 are.two.0 are.same free) in
+        let law = replacing_rests_on_its_units d us turn.moment a b is are.one.0 are.two.0 (sym kind) (sym kinds_same ∙ sym kind) (subst (λ (x : Kind). AgreeAtOpen x us a b) (sym kind) (agree_at v us a b are.one.0 are.two.0 are.same free)) in
         subst (λ (c : Bool). AreAnswers v s t (complete_change_plan v turn s wanted (access_to v a) (changes d us (rows a)) (replaced d us turn.moment a))
         (complete_change_plan v turn t wanted (access_to v b) c (replaced d us turn.moment b))) law.0
         (go (changes d us (rows a)) (replaced d us turn.moment a) (replaced d us turn.moment b) refl refl law.1)
       where
-        go : (c : Bool) (o p : Option Content) → replaced d us turn.moment a ≡ o → replaced d us turn.moment b ≡ p → AreReplacedAlike us c turn.moment a b o p
+        go : (c : Bool) (o p : Option Content) → replaced d us turn.moment a ≡ o → replaced d us turn.moment b ≡ p → AreReplacedAlike d.kind us c turn.moment a b o p
             → AreAnswers v s t (complete_change_plan v turn s wanted (access_to v a) c o) (complete_change_plan v turn t wanted (access_to v b) c p)
         go c None None e f h = record { reply = refl; like = like }
         go c (Some x) (Some y) e f h =
-            outcome_same us c a b x y are (replaced_sound d is us a kind open' turn.moment there v.base are.one x e)
+            outcome_same d.kind us c a b x y are (replaced_sound d is us a kind open' turn.moment there v.base are.one x e)
             (replaced_sound d is us b (kind ∙ kinds_same) (subst (λ (k : Kind). All (λ u. is_fixed k u ≡ false) us) kinds_same open') turn.moment there v.base are.two y f)
             h.0 h.1 h.2 wanted
         go c None (Some y) e f h = absurd h
@@ -299,14 +307,14 @@ module _ (v : Viewer) (turn : Turn) (s t : List Content) (like : AreLike v s t) 
   -- ---- what is patched
 
   module _ (p : Patch) (is : IsPatch p) (wanted : Wanted) (a b : Content) (are : AreSought a b) (kind : p.kind ≡ a.kind) where
-    applied_same : (o q : Result (Content × Bool) StepFault) → applied p turn.moment a ≡ o → applied p turn.moment b ≡ q → ArePatchedAlike (touched p) turn.moment a b o q
+    applied_same : (o q : Result (Content × Bool) StepFault) → applied p turn.moment a ≡ o → applied p turn.moment b ≡ q → ArePatchedAlike p.kind (touched p) turn.moment a b o q
         → AreAnswers v s t (applied_patch_plan v turn s wanted a o) (applied_patch_plan v turn t wanted b q)
     unfolding rejection_plan
     applied_same (Err e) (Err f) made made_too h = record { reply = ap (λ fault. Refused (step_refusal fault)) h; like = like }
     applied_same (Ok (x, changed)) (Ok (y, other)) made made_too h =
         let two : IsLeft (touched p) changed turn.moment b y = subst (λ (c : Bool). IsLeft (touched p) c turn.moment b y) (sym h.0) h.3 in
         subst (λ (c : Bool). AreAnswers v s t (unique_change_plan v turn s wanted (access_to v a) changed x) (unique_change_plan v turn t wanted (access_to v b) c y)) h.0
-        (outcome_same (touched p) changed a b x y are (applied_sound p is turn.moment there v.base a (sym kind) are.one x changed made)
+        (outcome_same p.kind (touched p) changed a b x y are (applied_sound p is turn.moment there v.base a (sym kind) are.one x changed made)
         (applied_sound p is turn.moment there v.base b (sym (kind ∙ ap (λ (z : Traits). z.kind) are.same)) are.two y other made_too) h.1 h.2 two wanted)
     applied_same (Err e) (Ok y) made made_too h = absurd h
     applied_same (Ok x) (Err f) made made_too h = absurd h
@@ -320,7 +328,7 @@ module _ (v : Viewer) (turn : Turn) (s t : List Content) (like : AreLike v s t) 
         let free = subst (λ (k : Kind). All (λ u. forbidding k (access_of v a) u ≡ None) (touched p)) kind none in
         applied_same (applied p turn.moment a) (applied p turn.moment b) refl refl
         (patching_rests_on_its_units p turn.moment a b is are.one.0 are.two.0 (sym kind) (sym (kind ∙ ap (λ (z : Traits). z.kind) are.same))
-        (agree_at v (touched p) a b are.one.0 are.two.0 are.same free))
+        (subst (λ (x : Kind). AgreeAtOpen x (touched p) a b) (sym kind) (agree_at v (touched p) a b are.one.0 are.two.0 are.same free)))
 
   patching_same : (p : Patch) → IsPatch p → (wanted : Wanted) (a b : Content) → AreSought a b → AreAnswers v s t (patch_plan v turn s p wanted a) (patch_plan v turn t p wanted b)
   unfolding patch_plan rejection_plan

@@ -12,7 +12,7 @@ use Rattle.scim_cell.specs.Content.{Content}
 use Rattle.scim_cell.specs.Rows.{Row, Test, by_leaf, rows, content, values, restricted, AreSound}
 use Rattle.scim_value.specs.Resource.{IsResource}
 use Rattle.scim_value.proofs.Facts.{part_content, restricted_sound, rows_content, sound_part}
-use Rattle.scim_change.specs.Laws.{AgreeAt, IsLeft}
+use Rattle.scim_change.specs.Laws.{AgreeAt, EndsAlike, IsApart, IsLeft}
 use Rattle.scim_change.proofs.Facts.{stamp}
 use Rattle.scim_patch_steps.proofs.Facts.{same_content}
 use Rattle.scim_noninterference.proofs.RowLemmas.{values_restricted, attributes_kept}
@@ -78,6 +78,73 @@ module _ (us : List AttributeUnit) (changed : Bool) (moment : ℕ) (a b x y : Co
           ap (restricted keep) own.0
           ∙ sym (values_restricted keep u (rows a)) ∙ ap (values u) before ∙ values_restricted keep u (rows b)
           ∙ sym (ap (restricted keep) own.1)
+
+-- ---- units that end alike
+
+-- of two resources that were these before, each has its own values of a unit
+abbrev AreOwn : Content → Content → Content → Content → AttributeUnit → Type 0
+AreOwn a b x y v = (values v (rows x) ≡ values v (rows a)) × (values v (rows y) ≡ values v (rows b))
+
+-- of some units those at which both have the same values; at each other of them each has its own
+record AreChosen (us : List AttributeUnit) (a b x y : Content) : Type 0 where
+  units : List AttributeUnit
+  agree : AgreeAt units x y
+  others : (v : AttributeUnit) → All (λ u. u ≢ v) units → All (λ u. u ≢ v) us ⊎ AreOwn a b x y v
+
+choose : (kind : Kind) (us : List AttributeUnit) (a b x y : Content) → All (λ u. EndsAlike kind u a b x y) us → AreChosen us a b x y
+choose kind [] a b x y ends = record { units = []; agree = All-nil (λ u. values u (rows x) ≡ values u (rows y)); others = λ v none. inl none }
+choose kind (u ∷ us) a b x y ends =
+    go (choose kind us a b x y (All-tail (λ u. EndsAlike kind u a b x y) u us ends)) (All-head (λ u. EndsAlike kind u a b x y) u us ends)
+  where
+    go : AreChosen us a b x y → EndsAlike kind u a b x y → AreChosen (u ∷ us) a b x y
+    go rest (inl same) = record {
+      units = u ∷ rest.units;
+      agree = All-cons (λ w. values w (rows x) ≡ values w (rows y)) u rest.units same rest.agree;
+      others = λ v none. elim (rest.others v (All-tail (λ w. w ≢ v) u rest.units none)) [
+        | inl n ↦ inl (All-cons (λ w. w ≢ v) u us (All-head (λ w. w ≢ v) u rest.units none) n)
+        | inr own ↦ inr own
+      ];
+    }
+    go rest (inr kept) = record {
+      units = rest.units;
+      agree = rest.agree;
+      others = λ v none. elim (rest.others v none) [
+        | inr own ↦ inr own
+        | inl n ↦ elim (cases_Bool (is_same_unit u v)) [
+          | inl t ↦ inr (subst (AreOwn a b x y) ((is_same_unit-Decides u v).0 t) (kept.1, kept.2))
+          | inr m ↦ inl (All-cons (λ w. w ≢ v) u us (λ e. (let t : is_same_unit u v ≡ true = (is_same_unit-Decides u v).1 e in cc)) n)
+        ]
+      ];
+    }
+
+-- so a change of units that end alike is a change of units at which both have the same values afterwards
+pub record AreSettled (changed : Bool) (moment : ℕ) (a b x y : Content) : Type 0 where
+  pub units : List AttributeUnit
+  pub agree : AgreeAt units x y
+  pub first : IsLeft units changed moment a x
+  pub second : IsLeft units changed moment b y
+
+pub settled : (kind : Kind) (us : List AttributeUnit) (changed : Bool) (moment : ℕ) (a b x y : Content) → All (λ u. EndsAlike kind u a b x y) us
+    → IsLeft us changed moment a x → IsLeft us changed moment b y → AreSettled changed moment a b x y
+settled kind us changed moment a b x y ends first second = record {
+  units = chosen.units;
+  agree = chosen.agree;
+  first = record {
+    kind = first.kind;
+    id = first.id;
+    stays = λ v apart. elim (chosen.others v apart.none) [ inl n ↦ first.stays v (record { none = n; unstamped = apart.unstamped }) | inr own ↦ own.0 ];
+    modified = first.modified;
+  };
+  second = record {
+    kind = second.kind;
+    id = second.id;
+    stays = λ v apart. elim (chosen.others v apart.none) [ inl n ↦ second.stays v (record { none = n; unstamped = apart.unstamped }) | inr own ↦ own.1 ];
+    modified = second.modified;
+  };
+}
+  where
+    chosen : AreChosen us a b x y
+    chosen = choose kind us a b x y ends
 
 -- rows by attribute: the same, said of resources
 pub attributes_same : (test : Attribute → Bool) (a : Content) → IsResource a → restricted (by_leaf (λ l. test l.attribute)) (rows a) ≡ filter (λ (r : Row). test r.unit.attribute) (rows a)

@@ -59,7 +59,8 @@ pub fn names_rest_on_control()
 /// the change. The control of a resource consists of the values that the policy's targets name or that must
 /// be unique. The change must give both resources equal values of the units that it writes, set
 /// `meta.lastModified` to the same moment in both or leave it unchanged in both, and leave all other values
-/// unchanged. A PUT or a PATCH is such a change if the resources had equal values of these units before.
+/// unchanged. A PUT or a PATCH is such a change if the resources had equal values before of those of its units
+/// that aren't writeOnly.
 pub fn control_rests_on_units()
     ensures { ControlRestsOnUnits }
 {}

@@ -16,7 +16,7 @@ use Rattle.scim_value.specs.Resource.{IsResource, HasBase}
 use Rattle.scim_audit.specs.declared.refusals.Refusal.{Refusal}
 use Rattle.scim_audit.specs.declared.audit_rows.AuditRow.{AuditRow}
 use Rattle.scim_body.specs.Drafts.{Draft, lacks_required}
-use Rattle.scim_change.specs.Replace.{changes, with_units, modified_at, if_complete, replaced}
+use Rattle.scim_change.specs.Replace.{changes, taken, with_units, modified_at, if_complete, replaced}
 use Rattle.scim_patch_steps.specs.declared.steps.StepFault.{StepFault}
 use Rattle.scim_patch_steps.specs.Patch.{Patch, touched, patched, changes as changes_by, finished, if_stepped, applied}
 use Rattle.scim_patch_steps.specs.Kept.{patch_of}
@@ -38,14 +38,14 @@ use Rattle.scim_service.specs.Step.{rejection_plan, absence_plan, hidden_plan, d
 pub replaced_kind : (d : Draft) (us : List AttributeUnit) (moment : ℕ) (c x : Content) → replaced d us moment c ≡ Some x → (x.kind ≡ c.kind) × (x.id ≡ c.id)
 unfolding replaced
 replaced_kind d us moment c x e = elim (cases_Bool (changes d us (rows c))) [
-  | inl t ↦ complete (lacks_required c.kind (with_units d us (rows c))) refl (rw t at e)
+  | inl t ↦ complete (lacks_required c.kind (with_units d (taken d us) (rows c))) refl (rw t at e)
   | inr f ↦ (let same : Some c ≡ Some x = rw f at e in (cc, cc))
 ]
   where
-    complete : (lacks : Bool) → lacks_required c.kind (with_units d us (rows c)) ≡ lacks → if_complete moment c (with_units d us (rows c)) ≡ Some x → (x.kind ≡ c.kind) × (x.id ≡ c.id)
-    complete true l h = absurd (let none : if_complete moment c (with_units d us (rows c)) ≡ None = rw l refl in cc)
-    complete false l h = (let some : if_complete moment c (with_units d us (rows c)) ≡ Some (content c.kind c.id (modified_at moment (with_units d us (rows c)))) = rw l refl in
-        let same : Some (content c.kind c.id (modified_at moment (with_units d us (rows c)))) ≡ Some x = sym some ∙ h in (cc, cc))
+    complete : (lacks : Bool) → lacks_required c.kind (with_units d (taken d us) (rows c)) ≡ lacks → if_complete moment c (with_units d (taken d us) (rows c)) ≡ Some x → (x.kind ≡ c.kind) × (x.id ≡ c.id)
+    complete true l h = absurd (let none : if_complete moment c (with_units d (taken d us) (rows c)) ≡ None = rw l refl in cc)
+    complete false l h = (let some : if_complete moment c (with_units d (taken d us) (rows c)) ≡ Some (content c.kind c.id (modified_at moment (with_units d (taken d us) (rows c)))) = rw l refl in
+        let same : Some (content c.kind c.id (modified_at moment (with_units d (taken d us) (rows c)))) ≡ Some x = sym some ∙ h in (cc, cc))
 
 -- the resource that comes of a patch, or this one where none does
 abbrev left_by : Content → Result (Content × Bool) StepFault → Content
