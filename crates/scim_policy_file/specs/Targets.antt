@@ -1,10 +1,10 @@
 -- The target of a rule: a text that is a filter on each of the rule's kinds (RFC 7644 section 3.4.2.2).
-use Rattle.std.specs.Prelude.{ℕ, ◌+◌, Bool, true, false, ◌&&◌, ◌||◌, List, [], ◌∷◌, map, Option, None, Some, option_map, ok_or, slice_get, Result, Ok, Err, if◌then◌else◌}
+use Rattle.std.specs.Prelude.{ℕ, ◌+◌, Bool, true, false, ◌&&◌, List, [], ◌∷◌, map, Option, None, Some, option_map, ok_or, slice_get, Result, Ok, Err, if◌then◌else◌}
 use Rattle.std.specs.List.{list_any}
 use denote.Enum.Bare.{sameb}
 use Rattle.scim_schema.specs.declared.Kind.{Kind}
 use Rattle.scim_schema.specs.declared.Attribute.{Attribute}
-use Rattle.scim_schema.specs.declared.Attribute.TheVariants.{Groups, Password, Meta}
+use Rattle.scim_schema.specs.declared.Attribute.TheVariants.{Groups, Password, Meta, DoorCode}
 use Rattle.scim_schema.specs.contracts.Attribute.{the_type as the_attribute}
 use Rattle.scim_filter_grammar.specs.declared.mentions.Named.{Named}
 use Rattle.scim_filter_grammar.specs.Mentions.{mentioned_names, is_known}
@@ -49,19 +49,23 @@ abbrev pub are_known : List (List Named) → Bool
 are_known [] = true
 are_known (ns ∷ more) = are_known_from 0 (ns ∷ more) ns
 
--- whether the attribute is `groups`, `password` or `meta`
-abbrev pub is_withheld : Option Attribute → Bool
-is_withheld None = false
-is_withheld (Some a) = sameb the_attribute a Groups || (sameb the_attribute a Password || sameb the_attribute a Meta)
+-- whether the attribute is one of these
+abbrev pub is_one_of : List Attribute → Option Attribute → Bool
+is_one_of those None = false
+is_one_of those (Some a) = list_any (sameb the_attribute a) those
 
--- whether one of the names refers to `groups`, `password` or `meta`
-abbrev pub name_withheld : List Named → Bool
-name_withheld ns = list_any (λ (n : Named). is_withheld n.attribute) ns
+-- whether one of the names refers to one of these attributes
+abbrev pub name_one_of : List Attribute → List Named → Bool
+name_one_of those ns = list_any (λ (n : Named). is_one_of those n.attribute) ns
 
 -- the targets; the cause `Name` if a name refers to an attribute of none of the kinds, else `TargetNames` if
--- a name refers to `groups`, `password` or `meta`
+-- a name refers to `groups`, `password` or `meta`, else `TargetNamesDoorCode` if a name refers to `doorCode`
 abbrev pub allowed : List (List Named) → List Target → Result (List Target) Cause
-allowed lists ts = if are_known lists then (if list_any name_withheld lists then Err cause.TargetNames else Ok ts) else Err cause.Name
+allowed lists ts =
+    if are_known lists
+    then (if list_any (name_one_of (Groups ∷ Password ∷ Meta ∷ [])) lists then Err cause.TargetNames
+    else (if list_any (name_one_of (DoorCode ∷ [])) lists then Err cause.TargetNamesDoorCode else Ok ts))
+    else Err cause.Name
 
 -- the attribute names in each of the targets, one list for each target
 abbrev pub names_of : List Target → List (List Named)

@@ -30,6 +30,9 @@ pub enum Cause {
     /// A path has a value filter, and the rule has another operation than read, or the filter is on `groups`.
     #[error("value filter")]
     ValueFilter,
+    /// A target names `doorCode`.
+    #[error("target names doorCode")]
+    TargetNamesDoorCode,
 }
 
 /// The reason why a policy file is refused. `rule` is the number of the faulty rule, from 1, or 0 if the file

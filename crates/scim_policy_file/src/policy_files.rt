@@ -57,16 +57,16 @@ struct WrittenRule<'v> {
 /// `attribute.subAttribute`, with or without a URN before it and spaces around it; names match in any ASCII
 /// case). These keys are required, and no list may be empty. The optional key `target` is a filter on each
 /// of the types; other keys are faults. Each name in a target must be an attribute of at least one of the
-/// types, and must not be `groups`, `password` or `meta`. On a type without that attribute, the name has no
-/// value.
+/// types, and must not be `groups`, `password`, `meta` or `doorCode`. On a type without that attribute, the name
+/// has no value.
 ///
 /// In version 2 a path may be a value path too, `attribute[filter]` or `attribute[filter].subAttribute`, as in
 /// a PATCH operation (RFC 7644 section 3.5.2), if the rule's only operation is `read`; but not on `groups`.
 ///
 /// Fails with the first fault. Faults of the file (rule 0) come first, in the order of [`Cause`], then the
 /// faults of each rule in turn. Within a rule the order is: `Shape`; `Name` for the clients, the operations
-/// and the types; `Target`, `Name` and `TargetNames` for the target; and `Name` or `ValueFilter` for the first
-/// faulty path.
+/// and the types; `Target`, `Name`, `TargetNames` and `TargetNamesDoorCode` for the target; and `Name` or
+/// `ValueFilter` for the first faulty path.
 #[tactic(auto, unfolding(crate::specs::File::policy_of))]
 pub fn read_policy(alloc: Global, text: &str) -> Result<Policy, Failed<PolicyFault>>
     ensures { UnlessMemory (λ r. spec.policy_of text.now ≡ r) result }

@@ -1,6 +1,8 @@
 //! Reads the target of a rule.
 ghost use Rattle.std.specs.Prelude.{◌≡◌, IfOk, map, option_map};
 ghost use Rattle.std.specs.List.{list_any};
+ghost use denote.Enum.Bare.{sameb};
+ghost use Rattle.scim_schema.specs.contracts.Attribute.{the_type as the_attribute};
 ghost use Rattle.scim_policy_file.specs.Lists.{each};
 ghost use Rattle.scim_policy_file.specs.Targets as spec;
 ghost use Rattle.scim_policy_file.specs.code.Written.{Gives, text_at};
@@ -17,7 +19,7 @@ use std::alloc::Global;
 ///
 /// Fails with `Target` if the text isn't a filter on each kind, else with `Name` if the text names an
 /// attribute that none of the kinds has, else with `TargetNames` if the text names `groups`, `password` or
-/// `meta`.
+/// `meta`, else with `TargetNamesDoorCode` if the text names `doorCode`.
 pub(crate) fn targets_for(
     alloc: Global,
     kinds: &[Kind],
@@ -36,7 +38,7 @@ pub(crate) fn targets_for(
 ///
 /// Fails with `Target` if the text isn't a filter on each kind, else with `Name` if the text names an
 /// attribute that none of the kinds has, else with `TargetNames` if the text names `groups`, `password` or
-/// `meta`.
+/// `meta`, else with `TargetNamesDoorCode` if the text names `doorCode`.
 #[tactic(auto, unfolding(crate::specs::Targets::targets_in))]
 fn targets_in(alloc: Global, kinds: &[Kind], text: &str) -> Result<Vec<Target>, Failed<Cause>>
     ensures { Gives (λ v. v.items) result (spec.targets_in kinds.now text.now) }
@@ -48,8 +50,14 @@ fn targets_in(alloc: Global, kinds: &[Kind], text: &str) -> Result<Vec<Target>, 
     if !are_known(&lists) {
         return Err(Failed::Because(Cause::Name));
     }
-    if is_one_withheld(&lists) {
+    if names_one_of(
+        &lists,
+        &[Attribute::Groups, Attribute::Password, Attribute::Meta],
+    ) {
         return Err(Failed::Because(Cause::TargetNames));
+    }
+    if names_one_of(&lists, &[Attribute::DoorCode]) {
+        return Err(Failed::Because(Cause::TargetNamesDoorCode));
     }
     Ok(targets)
 }
@@ -139,35 +147,41 @@ fn is_known_at(names: &[Named], place: usize) -> bool
     }
 }
 
-/// Whether a name in one of the lists refers to `groups`, `password` or `meta`.
-fn is_one_withheld(lists: &[Vec<Named>]) -> bool
-    ensures { result ≡ list_any spec.name_withheld (map (λ ns. ns.items) lists.now) }
+/// Whether a name in one of the lists refers to one of these attributes.
+fn names_one_of(lists: &[Vec<Named>], attributes: &[Attribute]) -> bool
+    ensures { result
+        ≡ list_any (spec.name_one_of attributes.now) (map (λ ns. ns.items) lists.now) }
 {
     for names in lists {
-        if has_withheld(names) {
+        if has_one_of(names, attributes) {
             return true;
         }
     }
     false
 }
 
-/// Whether one of the names refers to `groups`, `password` or `meta`.
-fn has_withheld(names: &[Named]) -> bool
-    ensures { result ≡ spec.name_withheld names.now }
+/// Whether one of the names refers to one of these attributes.
+fn has_one_of(names: &[Named], attributes: &[Attribute]) -> bool
+    ensures { result ≡ spec.name_one_of attributes.now names.now }
 {
-    names.iter().any(|name| is_withheld(name.attribute))
+    names
+        .iter()
+        .any(|name| is_one_of(name.attribute, attributes))
 }
 
-/// Whether the attribute is `groups`, `password` or `meta`.
-fn is_withheld(attribute: Option<Attribute>) -> bool
-    ensures { result ≡ spec.is_withheld attribute }
+/// Whether there is an attribute, and it is one of these.
+fn is_one_of(attribute: Option<Attribute>, attributes: &[Attribute]) -> bool
+    ensures { result ≡ spec.is_one_of attributes.now attribute }
 {
     match attribute {
-        Some(attribute) => {
-            attribute == Attribute::Groups
-                || attribute == Attribute::Password
-                || attribute == Attribute::Meta
-        }
+        Some(attribute) => is_in(attribute, attributes),
         None => false,
     }
+}
+
+/// Whether the attribute is one of these.
+fn is_in(attribute: Attribute, attributes: &[Attribute]) -> bool
+    ensures { result ≡ list_any (sameb the_attribute attribute) attributes.now }
+{
+    attributes.iter().any(|other| attribute == *other)
 }
