@@ -3,39 +3,33 @@ use Rattle.std.proofs.Common.{◌≡◌, refl, sym, ◌∙◌, ap, subst, ℕ, z
 use Rattle.std.specs.Prelude.{All, AllPairs, Option, None, Some, IfSome, find}
 use Rattle.std.specs.List.Sorted.{IsSorted}
 use Rattle.std.specs.Ordering.{nat_cmp, is_eq}
-use Rattle.std.specs.declared.cmp.Ordering.{Ordering}
-use Rattle.std.specs.declared.cmp.Ordering.TheVariants.{Less, Equal, Greater}
-use Rattle.std.specs.Cmp.Lexicographic.{slice_cmp, bytes_decides}
+use Rattle.std.specs.Cmp.Lexicographic.{slice_cmp}
 use Rattle.std.proofs.lemmas.Map.Lookups.{exact_bytes}
 use Rattle.std.proofs.lemmas.Bool.{cases_Bool, false_from_ne_true}
 use Rattle.std.proofs.lemmas.Slice.Eq.{bytes_eq-Decides}
-use Rattle.std.proofs.lemmas.List.Elements.{All-head, All-tail, All-cons, All-weaker, All-filter, filter-append, filter_passes}
+use Rattle.std.proofs.lemmas.List.Elements.{All-head, All-tail, All-weaker, All-filter, filter-append, filter_passes}
 use denote.Enum.Bare.{same_true, true_same}
 use Rattle.scim_schema.specs.declared.Kind.{Kind}
 use Rattle.scim_schema.specs.contracts.Kind.{the_type as the_kind}
-use Rattle.scim_schema.specs.declared.Kind.TheVariants.{User, Group}
-use Rattle.scim_schema.specs.declared.Attribute.TheVariants.{Id, UserName}
-use Rattle.scim_schema.specs.declared.Leaf.{Leaf}
+use Rattle.scim_schema.specs.declared.Attribute.TheVariants.{Id}
 use Rattle.scim_schema.specs.Units.{simple}
 use Rattle.scim_schema.specs.Characteristics.{is_case_exact}
-use Rattle.scim_schema.specs.UniqueLeaves.{unique_leaves}
-use Rattle.scim_text.specs.Names.{folded}
 use Rattle.scim_cell.specs.declared.atoms.Atom.{Atom}
-use Rattle.scim_cell.specs.declared.atoms.Atom.TheVariants.{Text, Truth, Moment}
+use Rattle.scim_cell.specs.declared.atoms.Atom.TheVariants.{Text}
 use Rattle.scim_cell.specs.Content.{Content}
 use Rattle.scim_cell.specs.Equality.{is_same_id}
 use Rattle.scim_cell.specs.Ids.{IsId, id_text}
 use Rattle.scim_cell.proofs.Facts.{id_text-injective}
 use Rattle.scim_cell.specs.Kinds.{is_of, of_kind}
 use Rattle.scim_cell.specs.Order.{id_cmp}
-use Rattle.scim_value.specs.Resource.{IsResource, HasBase, IsFilled, IsNamed, IsNamedAs, first_at}
-use Rattle.scim_value.specs.Uniqueness.{Name, AreApart, unique_names}
+use Rattle.scim_value.specs.Resource.{IsResource, HasBase}
+use Rattle.scim_value.specs.Uniqueness.{Name, AreApart}
 use Rattle.scim_filter_grammar.specs.declared.tree.Filter.{Filter}
 use Rattle.scim_view.specs.View.{Viewer, sees}
 use Rattle.scim_view.specs.Groups.{and_those, with_groups, view_with_groups, views}
 use Rattle.scim_filter_grammar.specs.declared.tree.Literal.TheVariants as literal
 use Rattle.scim_filter_grammar.specs.declared.tree.Operator.TheVariants.{Eq}
-use Rattle.scim_filter.specs.Relation.{cased, stands}
+use Rattle.scim_filter.specs.Relation.{stands}
 use Rattle.scim_query.specs.Needed.{NeedsText}
 use Rattle.scim_view.proofs.Facts.{and_those_append, seen_stands}
 use Rattle.scim_query.specs.declared.queries.Query.{Query}
@@ -45,6 +39,7 @@ use Rattle.scim_shelf.specs.Stores.{Store, IsStore, has_name, is_at}
 use Rattle.scim_search.specs.Lookups.{OnlyThose}
 use Rattle.scim_search.proofs.ApartLemmas.{not_both}
 use Rattle.scim_search.proofs.ListLemmas.{filter_swap}
+use Rattle.scim_search.proofs.NameLemmas.{is_equal}
 
 -- of what is seen of a list, what is seen of its first resource comes first
 first_apart : (f : Option Filter) (o : Option Content) (xs : List Content) → matching f (and_those o xs) ≡ matching f (and_those o []) ++ matching f xs
@@ -139,45 +134,6 @@ of_own_kind kind v gs c part own same = rw own (ap (λ (o : Option Content). and
 -- a list of one is in order
 pub one_in_order : (cs : List Content) → length cs ≤ 1 → IsSorted id_cmp cs
 one_in_order cs few k d low high = absurd (omega arith)
-
--- where no part matches in which a text doesn't stand at a unique leaf, only a resource with that name can match
-abbrev pub NamesByText : Kind → Leaf → Type 0
-NamesByText kind leaf = (f : Option Filter) (text : List ℕ) → NeedsText f leaf text → OnlyThose kind f (has_name (record { leaf = leaf; text = cased (is_case_exact leaf) text }))
-
--- the unique name of a user
-name_of_user : (c : Content) (s : List ℕ) → c.kind ≡ User → first_at (simple UserName) c ≡ Some (Text s) → unique_names c ≡ record { leaf = simple UserName; text = folded s } ∷ []
-unfolding unique_leaves
-name_of_user c s is found = rw is (rw found refl)
-
-is_equal : (o : Ordering) → is_eq o ≡ true → o ≡ Equal
-is_equal Less e = cc
-is_equal Equal e = refl
-is_equal Greater e = cc
-
--- texts that `eq` holds of at `userName` fold alike, and no moment or truth stands there
-folds_alike : (o : Option Atom) (a : Atom) (text : List ℕ) → IsFilled o → o ≡ Some a → stands (is_case_exact (simple UserName)) Eq a (literal.Text text) ≡ true
-    → (s : List ℕ) × (o ≡ Some (Text s)) × (folded s ≡ folded text)
-folds_alike None a text filled is e = absurd filled
-folds_alike (Some (Truth b)) a text filled is e = absurd filled
-folds_alike (Some (Moment m)) a text filled is e = absurd filled
-folds_alike (Some (Text s)) a text filled is e =
-    let one : Text s ≡ a = cc in
-    let equal : is_eq (slice_cmp nat_cmp (folded s) (folded text)) ≡ true = ap (λ (b : Atom). stands (is_case_exact (simple UserName)) Eq b (literal.Text text)) one ∙ e in
-    (s, refl, exact_bytes (folded s) (folded text) (is_equal _ equal))
-
-named_as_user : (c : Content) → c.kind ≡ User → IsNamed c → IsFilled (first_at (simple UserName) c)
-named_as_user c is named = subst (λ (k : Kind). IsNamedAs k c) is named
-
-user_named : NamesByText User (simple UserName)
-user_named f text needs v gs c is sound matches =
-    let found = seen_stands (λ (a : Atom). stands (is_case_exact (simple UserName)) Eq a (literal.Text text)) (simple UserName) v gs c refl refl sound.part (needs (with_groups v gs c) matches) in
-    let known = folds_alike (first_at (simple UserName) c) found.0 text (named_as_user c is sound.named) found.1 found.2 in
-    rw (name_of_user c known.0 is known.1) (rw known.2 (rw ((bytes_decides (folded text) (folded text)).1 refl) refl))
-
-pub names_by_text : (kind : Kind) → All (NamesByText kind) (unique_leaves kind)
-unfolding unique_leaves
-names_by_text User = All-cons (NamesByText User) (simple UserName) [] user_named (λ k d lt. absurd (omega (arith, lt)))
-names_by_text Group = λ k d lt. absurd (omega (arith, lt))
 
 -- where no part matches in which the text of an id doesn't stand at `id`, only the resource with that id can match
 pub id_by_text : (kind : Kind) (f : Option Filter) (text id : List ℕ) → NeedsText f (simple Id) text → text ≡ id_text id → IsId id → OnlyThose kind f (is_at kind id)

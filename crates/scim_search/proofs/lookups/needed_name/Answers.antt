@@ -4,7 +4,7 @@ use Rattle.scim_schema.specs.declared.Leaf.{Leaf}
 use Rattle.scim_value.specs.Uniqueness.{Name}
 use Rattle.scim_shelf.specs.Stores.{has_name}
 use Rattle.scim_search.specs.Lookups.{OnlyThose}
-use Rattle.scim_search.proofs.LookupLemmas.{NamesByText, names_by_text}
+use Rattle.scim_search.proofs.NameLemmas.{NamesByText, names_by_text}
 use Rattle.scim_search.proofs.lookups.needed_name.Goals as goal
 
 pub returns-in-Some : goal.returns-in-Some
