@@ -2,7 +2,7 @@
 use Rattle.std.proofs.Common.{◌≡◌, false, refl}
 use Rattle.serde_json.specs.Written.{has_float}
 use Rattle.scim_schema.specs.declared.Kind.TheVariants.{User, Group}
-use Rattle.scim_schema.specs.declared.schema_urns.Schema.TheVariants.{User as UserSchema, Group as GroupSchema, EnterpriseUser}
+use Rattle.scim_schema.specs.declared.schema_urns.Schema.TheVariants.{User as UserSchema, Group as GroupSchema, EnterpriseUser, SiteUser}
 use Rattle.scim_route.specs.declared.endpoints.DiscoveryPage.{DiscoveryPage}
 use Rattle.scim_route.specs.declared.endpoints.DiscoveryPage.TheVariants.{ServiceProviderConfig, ResourceTypes, ResourceType, Schemas, Schema}
 use Rattle.scim_discovery.specs.ServiceProviderConfig.{service_provider_config}
@@ -21,3 +21,4 @@ page_has_no_float Schemas = refl
 page_has_no_float (Schema UserSchema) = refl
 page_has_no_float (Schema GroupSchema) = refl
 page_has_no_float (Schema EnterpriseUser) = refl
+page_has_no_float (Schema SiteUser) = refl

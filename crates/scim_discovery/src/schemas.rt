@@ -17,7 +17,7 @@ fn kind_with(schema: Schema) -> Kind
     ensures { result ≡ spec.kind_with schema }
 {
     match schema {
-        Schema::User | Schema::EnterpriseUser => Kind::User,
+        Schema::User | Schema::EnterpriseUser | Schema::SiteUser => Kind::User,
         Schema::Group => Kind::Group,
     }
 }
@@ -30,6 +30,7 @@ fn schema_name(schema: Schema) -> &'static str
         Schema::User => "User",
         Schema::Group => "Group",
         Schema::EnterpriseUser => "EnterpriseUser",
+        Schema::SiteUser => "Site",
     }
 }
 
