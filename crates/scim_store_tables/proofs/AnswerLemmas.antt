@@ -20,8 +20,9 @@ use Rattle.sqlite_resolve.specs.declared.error.CompileError.{CompileError}
 use Rattle.sqlite.proofs.Callers.{reads_as, command_of, never_commits}
 use Rattle.sqlite.proofs.StateLemmas.{survives_weaker}
 use Rattle.sqlite_value.specs.declared.keys.Key.{Key}
-use Rattle.scim_store_tables.specs.Tables.{store_schema}
-use Rattle.scim_store_tables.specs.Reading.{Rests, Spares, Finds, IsTextOfFirst}
+use Rattle.scim_store_tables.specs.Tables.{schema_of}
+use Rattle.scim_store_tables.specs.Reading.{Rests, SparesIn, Finds, IsTextOfFirst}
+use Rattle.scim_store_tables.specs.declared.versions.Version.{Version}
 use Rattle.scim_store_tables.specs.Asks.{asked, IsAsk, IsAnswered}
 use Rattle.scim_store_tables.specs.Queries.{one_table}
 use Rattle.scim_store_tables.proofs.QueryLemmas.{selected, passes, no_lets}
@@ -47,7 +48,7 @@ failed_rests sql params old new e (inr h) = go (timed params h.0.formats h.1.now
 
 -- ---- a query commits nothing
 
-pub asks_spare : (sql : List ℕ) (params : Row) (old new : State) (q : Query) → IsAsk sql q → Survives old new (CommitsShowing sql params old) → Spares old new
+pub asks_spare : {v : Version} (sql : List ℕ) (params : Row) (old new : State) (q : Query) → IsAsk v sql q → Survives old new (CommitsShowing sql params old) → SparesIn v old new
 asks_spare sql params old new q is = survives_weaker old new _ _ (λ _ db shown has. never_commits sql params old db (subst (λ s. IsPlain (understood s sql)) (sym has) is.plain) shown)
 
 -- ---- an answer
@@ -64,17 +65,17 @@ same_command : (r : Result Compiled CompileError) → command_of r ≡ asked r
 same_command (Ok c) = refl
 same_command (Err e) = refl
 
-shown_same : (sql : List ℕ) (params : Row) (old new : State) (rows : List Row) → old.now.schema ≡ store_schema → IsPlain (understood store_schema sql) → Shown sql params old new rows → IsUnchanged old new
+shown_same : (v : Version) (sql : List ℕ) (params : Row) (old new : State) (rows : List Row) → old.now.schema ≡ schema_of v → IsPlain (understood (schema_of v) sql) → Shown sql params old new rows → IsUnchanged old new
 unfolding Shown
-shown_same sql params old new rows has plain h =
+shown_same v sql params old new rows has plain h =
     let bare = subst (λ s. IsPlain (understood s sql)) (sym has) plain in
     let none = (subst IsPlain h.1.is bare).0 in
     let it = subst (ShowsRows old new sql h.0 (timed params h.0.formats h.1.now) rows) none h.2 in it.3
 
-pub answered : (sql : List ℕ) (q : Query) (params : Row) (old new : State) (rows : List Row) → IsAsk sql q → old.now.schema ≡ store_schema → Shown sql params old new rows → IsAnswered q params old new rows
-answered sql q params old new rows is has h =
-    let read = reads_as sql params old new store_schema has _ (same_command (understood store_schema sql) ∙ is.command) is.plain is.unlisted rows h in
-    record { unchanged = shown_same sql params old new rows has is.plain h; answer = read.answer Null }
+pub answered : {v : Version} (sql : List ℕ) (q : Query) (params : Row) (old new : State) (rows : List Row) → IsAsk v sql q → old.now.schema ≡ schema_of v → Shown sql params old new rows → IsAnswered q params old new rows
+answered {v} sql q params old new rows is has h =
+    let read = reads_as sql params old new (schema_of v) has _ (same_command (understood (schema_of v) sql) ∙ is.command) is.plain is.unlisted rows h in
+    record { unchanged = shown_same v sql params old new rows has is.plain h; answer = read.answer Null }
 
 -- ---- the columns that an answer shows
 

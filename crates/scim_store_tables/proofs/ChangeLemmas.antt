@@ -106,7 +106,7 @@ module _ (task : Task) where
       let trees : written.0 ≡ w.trees = sym (ap (λ (it : Written). it.trees) ended) in
       (found.0, found.1, subst (λ (t : Trees). Wrote schema keys db (edit_of db table (ids_of found.0) Given 1 found.0) (Ok t)) trees written.1, ap (λ (it : Written). it.rows) ended)
 
--- ---- one statement on one of the five tables
+-- ---- one statement on one of the six tables
 
 abbrev pub task_on : Table → Option ℕ → Row → Task
 task_on table limit params = record { limit = limit; keys = Enforced; schema = store_schema; table = table; params = params }

@@ -6,6 +6,7 @@ pub mod StatementLemmas
 pub mod ChangeLemmas
 pub mod TableLemmas
 pub mod OpeningLemmas
+pub mod MigrateLemmas
 pub mod TextLemmas
 pub mod TestLemmas
 pub mod WriteLemmas

@@ -28,8 +28,8 @@ use Rattle.sqlite.specs.Order.{Row}
 use Rattle.sqlite.specs.State.{State, HasCleanDisk, Survives, CommitsShowing, Shown, ShowsRows, FailsToQuery, FailsToShow, IsNotRun, IsUnchanged, store_error}
 use Rattle.sqlite.specs.Tree.{Trees}
 use Rattle.sqlite.proofs.StateLemmas.{survives_weaker}
-use Rattle.scim_store_tables.specs.Looking.{version_text, IsResultOf, IsRefusedBy, BeginsWithOne}
-use Rattle.scim_store_tables.specs.code.Told.{OnlyLooks, TellsOne, IsRefusal}
+use Rattle.scim_store_tables.specs.Looking.{version_text, IsResultOf, IsRefusedBy, BeginsWithVersion}
+use Rattle.scim_store_tables.specs.code.Told.{OnlyLooks, TellsKnown, IsRefusal}
 use Rattle.scim_store_tables.proofs.AnswerLemmas.{failed_rests}
 
 -- ---- what the text is
@@ -198,7 +198,7 @@ module _ (old new : State) (mode : old.in_transaction ≡ false → new.in_trans
   reads : ReadsOnly (understood old.now.schema version_text)
   reads = understood_reads old.now.schema version_text asks_version
 
-  pub look_told : (rows : List Row) (one : Bool) → (HasCleanDisk new → Shown version_text [] old new rows) → (IsTrue one → BeginsWithOne rows) → (one ≡ false → ¬ BeginsWithOne rows) → OnlyLooks TellsOne old new (Ok one)
+  pub look_told : (rows : List Row) (one : Bool) → (HasCleanDisk new → Shown version_text [] old new rows) → (IsTrue one → BeginsWithVersion rows) → (one ≡ false → ¬ BeginsWithVersion rows) → OnlyLooks TellsKnown old new (Ok one)
   look_told rows one shown is_one is_other = record {
     mode = mode;
     survives = reading_survives version_text [] old reads new survives;
@@ -206,11 +206,11 @@ module _ (old new : State) (mode : old.in_transaction ≡ false → new.in_trans
     rests = λ clean. tt;
   }
     where
-      go : (one : Bool) → (IsTrue one → BeginsWithOne rows) → (one ≡ false → ¬ BeginsWithOne rows) → IsResultOf version_text old.now rows → TellsOne old.now one
+      go : (one : Bool) → (IsTrue one → BeginsWithVersion rows) → (one ≡ false → ¬ BeginsWithVersion rows) → IsResultOf version_text old.now rows → TellsKnown old.now one
       go true is_one is_other result = (rows, result, is_one refl)
       go false is_one is_other result = inl (rows, result, is_other refl)
 
-  pub look_refused : (e : Error) → IsRefusal e → (HasCleanDisk new → FailsToQuery version_text [] old new e) → OnlyLooks TellsOne old new (Ok false)
+  pub look_refused : (e : Error) → IsRefusal e → (HasCleanDisk new → FailsToQuery version_text [] old new e) → OnlyLooks TellsKnown old new (Ok false)
   look_refused e is fails = record {
     mode = mode;
     survives = reading_survives version_text [] old reads new survives;
@@ -218,7 +218,7 @@ module _ (old new : State) (mode : old.in_transaction ≡ false → new.in_trans
     rests = λ clean. tt;
   }
 
-  pub look_failed : (e : Error) → (HasCleanDisk new → FailsToQuery version_text [] old new e) → OnlyLooks TellsOne old new (Err e)
+  pub look_failed : (e : Error) → (HasCleanDisk new → FailsToQuery version_text [] old new e) → OnlyLooks TellsKnown old new (Err e)
   look_failed e fails = record {
     mode = mode;
     survives = reading_survives version_text [] old reads new survives;

@@ -22,15 +22,16 @@ use Rattle.sqlite.specs.State.{State, Writes, mode_of, Executes, ExecutesInside}
 use Rattle.sqlite.specs.Listing.{understood}
 use Rattle.sqlite_tied.specs.Compute.{everything}
 use Rattle.sqlite.proofs.Callers.{IsPlain, command_of, statement_of, runs_as}
-use Rattle.scim_store_tables.specs.Tables.{no_schema, setting_table, resource_table, taken_table, member_table, audit_table, store_schema}
+use Rattle.scim_store_tables.specs.Tables.{no_schema, setting_table, resource_table, taken_table, member_table, audit_table, secret_table, old_schema, store_schema}
 use Rattle.scim_store_tables.specs.Lists.{IsTableOf, Are, no_rows, pair, entry, version_values}
 use Rattle.scim_store_tables.specs.code.Opening.{schema_1, schema_2, schema_3, schema_4, IsMade, IsBefore, IsBehind, creation}
 use Rattle.scim_store_tables.specs.Steps.{DoesIn, Makes}
 use Rattle.scim_store_tables.specs.declared.queries.Table.{Table as Name}
-use Rattle.scim_store_tables.specs.declared.queries.Table.TheVariants.{Setting, Resource, Taken, Member, Audit}
+use Rattle.scim_store_tables.specs.declared.queries.Table.TheVariants.{Setting, Resource, Taken, Member, Audit, Secret}
+use Rattle.scim_store_tables.specs.declared.versions.Version.TheVariants.{Two}
 use Rattle.scim_store_tables.proofs.ChangeLemmas.{went, same_value, cast_null, cast_int, puts, inside}
 use Rattle.scim_store_tables.proofs.StepLemmas.{does_then}
-use Rattle.scim_store_tables.proofs.TableLemmas.{no_index_2, no_index_4, no_index_6, no_index_8}
+use Rattle.scim_store_tables.proofs.TableLemmas.{no_index_2, no_index_4, no_index_6, no_index_8, no_index_9}
 
 -- ---- what the texts mean
 
@@ -53,6 +54,10 @@ member_defined = refl
 pub audit_defined : table_defined_by (creation Audit) ≡ Ok audit_table
 unfolding understood everything
 audit_defined = refl
+
+pub secret_defined : table_defined_by (creation Secret) ≡ Ok secret_table
+unfolding understood everything
+secret_defined = refl
 
 -- a text that makes a table
 pub record IsCreate (schema : Schema) (text : List ℕ) : Type 0 where
@@ -80,11 +85,15 @@ pub creates_audit : IsCreate schema_4 (creation Audit)
 unfolding understood everything
 creates_audit = record { command = refl; text_is = refl; plain = (refl, refl) }
 
+pub creates_secret : IsCreate old_schema (creation Secret)
+unfolding understood everything
+creates_secret = record { command = refl; text_is = refl; plain = (refl, refl) }
+
 abbrev pub version_text : List ℕ
-version_text = codes "INSERT INTO setting (name, number) VALUES ('version', 1)"
+version_text = codes "INSERT INTO setting (name, number) VALUES ('version', 2)"
 
 abbrev pub version_terms : List Term
-version_terms = lit Null ∷ lit (Text (codes "version")) ∷ lit (Int (pos 1)) ∷ []
+version_terms = lit Null ∷ lit (Text (codes "version")) ∷ lit (Int (pos 2)) ∷ []
 
 pub version_is : command_of (understood store_schema version_text) ≡ Insert 0 (Values version_terms 3)
 unfolding understood everything
@@ -167,16 +176,26 @@ makes_audit old new (Ok count) h = (
       record { schema_is = it.schema_is; none = (it.empty, (it.others.1.1.1.0 ∙ was.none.0, (it.others.1.1.0 ∙ was.none.1.0, (it.others.1.0 ∙ was.none.1.1.0, (it.others.0 ∙ was.none.1.1.1.0, tt))))) }),
 )
 
+makes_secret : (old new : State) (r : Result ℕ Error) → ExecutesInside 0 (creation Secret) [] old new r → MakesTable Secret old new r
+makes_secret old new (Err e) h = tt
+makes_secret old new (Ok count) h = (
+  h.1.mode,
+  λ was.
+      (let it = creates old_schema secret_table (creation Secret) creates_secret secret_defined refl old new count was.schema_is h.0 in
+      record { schema_is = it.schema_is; none = (it.empty, (it.others.1.1.1.1.0 ∙ was.none.0, (it.others.1.1.1.0 ∙ was.none.1.0, (it.others.1.1.0 ∙ was.none.1.1.0, (it.others.1.0 ∙ was.none.1.1.1.0, (it.others.0 ∙ was.none.1.1.1.1.0, tt)))))) }),
+)
+
 pub makes_table : (table : Name) (old new : State) (r : Result ℕ Error) → ExecutesInside 0 (creation table) [] old new r → MakesTable table old new r
 makes_table Setting = makes_setting
 makes_table Resource = makes_resource
 makes_table Taken = makes_taken
 makes_table Member = makes_member
 makes_table Audit = makes_audit
+makes_table Secret = makes_secret
 
 -- ---- the version
 
-empty_table : (shows : Row → Row) (rows : List Row) → rows ≡ [] → IsTableOf shows rows []
+pub empty_table : (shows : Row → Row) (rows : List Row) → rows ≡ [] → IsTableOf shows rows []
 empty_table shows rows none = subst (λ (r : List Row). IsTableOf shows r []) (sym none) (record { keys = record { keyed = tt; once = λ id. omega arith }; same = IsPermutation-refl [] })
 
 one_once : (b : Bool) (r : Row) → length (cond b (r ∷ []) []) ≤ 1
@@ -186,28 +205,29 @@ one_once false r = omega arith
 one_row : (n : ℤ) (v : Row) → pair (Int n ∷ v) ≡ v → IsTableOf pair ((Int n ∷ v) ∷ []) (v ∷ [])
 one_row n v shown = record { keys = record { keyed = (refl, tt); once = λ id. one_once (has_rowid id (Int n ∷ v)) (Int n ∷ v) }; same = IsPermutation-same _ _ (ap (λ x. x ∷ []) shown) }
 
-pub notes_version : (old new : State) (count : ℕ) → IsMade store_schema (8 ∷ 6 ∷ 4 ∷ 2 ∷ 0 ∷ []) old.now → Executes version_text [] old new (Ok count) → Are new.now no_rows
+pub notes_version : (old new : State) (count : ℕ) → IsMade store_schema (9 ∷ 8 ∷ 6 ∷ 4 ∷ 2 ∷ 0 ∷ []) old.now → Executes version_text [] old new (Ok count) → Are new.now no_rows
 notes_version old new count was h =
     let has = was.schema_is in
     let command = Insert 0 (Values version_terms 3) in
     let w = runs_as version_text [] old new store_schema has command version_is version_plain count h in
     let text = statement_of version_text (understood store_schema version_text) in
     let table : Table = record setting_table { tree = 0 } in
-    let row : Row = Int (next_rowid (old.now.trees 0)) ∷ version_values in
-    let step = puts table old.step_limit (mode_of old) [] old.now has 0 version_terms 3 row w.tally new.now refl (rw (cast_null, cast_int (pos 1)))
+    let row : Row = Int (next_rowid (old.now.trees 0)) ∷ version_values Two in
+    let step = puts table old.step_limit (mode_of old) [] old.now has 0 version_terms 3 row w.tally new.now refl (rw (cast_null, cast_int (pos 2)))
     (subst (λ s. Does old.step_limit (mode_of old) [] (record old.now { schema = s }) text None command (Ok (w.tally, new.now))) has w.changed) in
-    let rows : new.now.trees 0 ≡ row ∷ [] = step.rows ∙ ap (put_row row) was.none.1.1.1.1.0 in
+    let rows : new.now.trees 0 ≡ row ∷ [] = step.rows ∙ ap (put_row row) was.none.1.1.1.1.1.0 in
     let none = λ (t : ℕ) (e : t ≡ 0 → ⊥) (bare : IsNoIndex store_schema t) (was : old.now.trees t ≡ []). step.others t e (subst (λ s. IsNoIndex s t) (sym has) bare) ∙ was in
     record {
       schema = step.schema ∙ has;
-      version = subst (λ (r : List Row). IsTableOf pair r (version_values ∷ [])) (sym rows) (one_row (next_rowid (old.now.trees 0)) version_values refl);
-      resources = empty_table _ _ (none 2 (λ e. omega arith) no_index_2 was.none.1.1.1.0);
-      taken = empty_table _ _ (none 4 (λ e. omega arith) no_index_4 was.none.1.1.0);
-      member = empty_table _ _ (none 6 (λ e. omega arith) no_index_6 was.none.1.0);
-      audit = IsPermutation-same _ _ (ap (map entry) (none 8 (λ e. omega arith) no_index_8 was.none.0));
+      version = subst (λ (r : List Row). IsTableOf pair r (version_values Two ∷ [])) (sym rows) (one_row (next_rowid (old.now.trees 0)) (version_values Two) refl);
+      resources = empty_table _ _ (none 2 (λ e. omega arith) no_index_2 was.none.1.1.1.1.0);
+      taken = empty_table _ _ (none 4 (λ e. omega arith) no_index_4 was.none.1.1.1.0);
+      member = empty_table _ _ (none 6 (λ e. omega arith) no_index_6 was.none.1.1.0);
+      audit = IsPermutation-same _ _ (ap (map entry) (none 8 (λ e. omega arith) no_index_8 was.none.1.0));
+      secret = empty_table _ _ (none 9 (λ e. omega arith) no_index_9 was.none.0);
     }
 
-pub notes_version_inside : (old new : State) (r : Result ℕ Error) → ExecutesInside 0 version_text [] old new r → OnOk r (IsTrue new.in_transaction × (IsMade store_schema (8 ∷ 6 ∷ 4 ∷ 2 ∷ 0 ∷ []) old.now → Are new.now no_rows))
+pub notes_version_inside : (old new : State) (r : Result ℕ Error) → ExecutesInside 0 version_text [] old new r → OnOk r (IsTrue new.in_transaction × (IsMade store_schema (9 ∷ 8 ∷ 6 ∷ 4 ∷ 2 ∷ 0 ∷ []) old.now → Are new.now no_rows))
 notes_version_inside old new r = inside version_text [] old new r (λ count h was. notes_version old new count was h)
 
 -- one step behind another

@@ -14,12 +14,13 @@ use Rattle.scim_store_tables.specs.Lists.{Lists, has_text, has_texts, pair, trip
 use Rattle.scim_store_tables.specs.Reading.{columns_cmp, group_alone, Rests, HasTables, Holds, Tells, Finds, IsTextOfFirst, shown, owner_first, group_first, is_resource, is_between}
 use Rattle.scim_store_tables.specs.Asks.{IsAsk, IsAnswered}
 use Rattle.scim_store_tables.specs.Queries.{is_column, up, tree_of, rows_query, keys_query}
+use Rattle.scim_store_tables.specs.declared.versions.Version.TheVariants.{Two}
 use Rattle.scim_store_tables.specs.code.Keys.{key_alone}
 use Rattle.scim_store_tables.specs.code.Told.{AreRows, AreKeys}
 use Rattle.scim_store_tables.specs.Whole.{AreInOrder}
 use Rattle.scim_store_tables.specs.declared.queries.Table.{Table}
-use Rattle.scim_store_tables.specs.declared.queries.Table.TheVariants.{Setting, Resource, Taken, Member, Audit}
-use Rattle.scim_store_tables.proofs.AskLemmas.{groups_text, groups, asks_groups, resources_text, resources, asks_resources, document_text, document, asks_document, owner_text, owner, asks_owner, between_text, between, asks_between}
+use Rattle.scim_store_tables.specs.declared.queries.Table.TheVariants.{Setting, Resource, Taken, Member, Audit, Secret}
+use Rattle.scim_store_tables.proofs.AskLemmas.{groups_text, groups, asks_groups, resources_text, resources, asks_resources, document_text, document, asks_document, owner_text, owner, asks_owner, secret_text, secret, asks_secret, between_text, between, asks_between}
 use Rattle.scim_store_tables.proofs.AnswerLemmas.{passing, answered_columns, found_first, unchanged_rests}
 use Rattle.scim_store_tables.proofs.KeyLemmas.{keys_told}
 use Rattle.scim_store_tables.proofs.OrderLemmas.{told_in_order, told_where}
@@ -57,6 +58,7 @@ rows_told Member old new rows it =
     (told_in_order 6 (col 1 2 ∷ col 1 1 ∷ []) ((col 1 2, up) ∷ (col 1 1, up) ∷ []) (0 ∷ 1 ∷ []) old.now.trees rows (λ r. group_first (pair r)) old new refl (λ r. (refl, (refl, tt))) (λ r. refl) it.unchanged it.answer))
 rows_told Audit old new rows it =
     ordered (told_in_order 8 (col 1 0 ∷ col 1 2 ∷ col 1 3 ∷ col 1 4 ∷ col 1 5 ∷ col 1 6 ∷ col 1 7 ∷ col 1 8 ∷ col 1 9 ∷ col 1 10 ∷ []) ((col 1 0, up) ∷ []) (0 ∷ []) old.now.trees rows entry old new refl (λ r. (refl, tt)) (λ r. refl) it.unchanged it.answer)
+rows_told Secret old new rows it = by_first (told_in_order 9 (col 1 1 ∷ col 1 2 ∷ []) ((col 1 1, up) ∷ (col 1 2, up) ∷ []) (0 ∷ 1 ∷ []) old.now.trees rows pair old new refl (λ r. (refl, (refl, tt))) (λ r. refl) it.unchanged it.answer)
 
 pub table_keys_told : (table : Table) (old new : State) (rows : List Row) → IsAnswered (keys_query table) [] old new rows → IsUnchanged old new × AreKeys table old.now rows
 table_keys_told table old new rows it =
@@ -66,7 +68,7 @@ table_keys_told table old new rows it =
 
 -- the query is answered
 abbrev pub Answered : List ℕ → Row → State → State → List Row → Type 0
-Answered text params old new rows = (q : Query) → IsAsk text q → old.now.schema ≡ store_schema → IsAnswered q params old new rows
+Answered text params old new rows = (q : Query) → IsAsk Two text q → old.now.schema ≡ store_schema → IsAnswered q params old new rows
 
 module _ (old new : State) (rows : List Row) (opened : IsTrue old.is_open) where
   -- ---- all rows of a table
@@ -99,6 +101,17 @@ module _ (old new : State) (rows : List Row) (opened : IsTrue old.is_open) where
       let it = answers owner asks_owner are.schema in
       found_first 2 _ rows found old new it.unchanged
       (answered_columns 4 key_tests (col 1 3 ∷ []) [] old.now.trees (Text attribute ∷ Text folded ∷ []) rows lists.taken triple (has_texts attribute folded) _ (passes_key 4 attribute folded (col 1 3 ∷ [])) (λ r. refl) are.taken.same it.answer) first
+
+  pub secret_rests : (id : List ℕ) → Answered secret_text (Text id ∷ []) old new rows → (lists : Lists) → Holds old lists → Rests old new
+  secret_rests id answers lists holds = unchanged_rests old new (answers secret asks_secret (holds opened).schema).unchanged
+
+  pub secret_found : (id : List ℕ) (found : Option (List ℕ)) → Answered secret_text (Text id ∷ []) old new rows → IsTextOfFirst 0 rows found
+      → (lists : Lists) → Holds old lists → Finds 1 (filter (has_text 0 id) lists.secret) old new found
+  secret_found id found answers first lists holds =
+      let are = holds opened in
+      let it = answers secret asks_secret are.schema in
+      found_first 1 _ rows found old new it.unchanged
+      (answered_columns 9 (is_column 1 0 ∷ []) (col 1 2 ∷ []) [] old.now.trees (Text id ∷ []) rows lists.secret pair (has_text 0 id) _ (passes_text 9 id []) (λ r. refl) are.secret.same it.answer) first
 
   -- ---- in order, of those that pass
 

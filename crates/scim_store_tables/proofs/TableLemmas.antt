@@ -118,23 +118,42 @@ same_turned test f g same (r ∷ rows) = go (test r) refl (same_turned test f g 
     go true e more = rw (same r e, more)
     go false e more = more
 
+-- where each row of a table that passes is turned into one of the same values
+pub turned_among : (shows : Row → Row) (tree : ℕ) (a b : Database) (test : Row → Bool) (turned : Row → Row) (key : Row → Value) (v : Row) (values : List Row) → ((r : Row) → test (shows r) ≡ true → turned r ≡ key r ∷ v) → ((n : ℤ) → shows (Int n ∷ v) ≡ v)
+    → (count : ℕ) → Turns tree (λ r. test (shows r)) turned count a b → IsTableOf shows (a.trees tree) values → (count ≡ length (filter test values)) × IsTableOf shows (b.trees tree) (replicate count v ++ without test values)
+turned_among shows tree a b test turned key v values turns shown count step of =
+    let found = filter (λ r. test (shows r)) (a.trees tree) in
+    let with_key : Row → Row = λ r. key r ∷ v in
+    let back = pull_back with_key (map with_key found) step.news (subst (λ xs. IsPermutation xs step.news) (same_turned _ turned with_key turns (a.trees tree)) step.same) found refl in
+    let news : step.news ≡ keyed_by v (map key back.0) = back.2 ∙ sym (map-map _ _ _) in
+    let many : length (map key back.0) ≡ count = sym (step.counted ∙ ap length news ∙ length-map _ _) in
+    let put = put_all_among shows v shown (map key back.0) _ _ (taken_out shows test _ _ of)
+    (subst (λ rows. have_rowids rows ≡ true) news step.keyed) (subst (λ rows. are_fresh (filter (λ r. not (test (shows r))) (a.trees tree)) rows ≡ true) news step.fresh) in
+    let passed : IsPermutation (map shows found) (filter test values) = subst (λ xs. IsPermutation xs (filter test values)) (filter-map test shows _) (IsPermutation-filter test _ _ of.same) in (
+      step.counted ∙ length_permutation _ _ step.same ∙ length-map _ _ ∙ sym (length-map found shows) ∙ sym (length_permutation _ _ passed),
+      subst₂ (λ rows n. IsTableOf shows rows (replicate n v ++ without test values)) (sym (step.rows ∙ ap (put_all (filter (λ r. not (test (shows r))) (a.trees tree))) news)) many put,
+    )
+
 -- ---- one statement on the tables
 
 -- the trees of the tables are no indexes
 pub no_index_0 : IsNoIndex store_schema 0
-no_index_0 = ((λ (e : 1 ≡ 0). omega arith), ((λ (e : 3 ≡ 0). omega arith), ((λ (e : 5 ≡ 0). omega arith), ((λ (e : 7 ≡ 0). omega arith), tt))))
+no_index_0 = ((λ (e : 1 ≡ 0). omega arith), ((λ (e : 3 ≡ 0). omega arith), ((λ (e : 5 ≡ 0). omega arith), ((λ (e : 7 ≡ 0). omega arith), ((λ (e : 10 ≡ 0). omega arith), tt)))))
 
 pub no_index_2 : IsNoIndex store_schema 2
-no_index_2 = ((λ (e : 1 ≡ 2). omega arith), ((λ (e : 3 ≡ 2). omega arith), ((λ (e : 5 ≡ 2). omega arith), ((λ (e : 7 ≡ 2). omega arith), tt))))
+no_index_2 = ((λ (e : 1 ≡ 2). omega arith), ((λ (e : 3 ≡ 2). omega arith), ((λ (e : 5 ≡ 2). omega arith), ((λ (e : 7 ≡ 2). omega arith), ((λ (e : 10 ≡ 2). omega arith), tt)))))
 
 pub no_index_4 : IsNoIndex store_schema 4
-no_index_4 = ((λ (e : 1 ≡ 4). omega arith), ((λ (e : 3 ≡ 4). omega arith), ((λ (e : 5 ≡ 4). omega arith), ((λ (e : 7 ≡ 4). omega arith), tt))))
+no_index_4 = ((λ (e : 1 ≡ 4). omega arith), ((λ (e : 3 ≡ 4). omega arith), ((λ (e : 5 ≡ 4). omega arith), ((λ (e : 7 ≡ 4). omega arith), ((λ (e : 10 ≡ 4). omega arith), tt)))))
 
 pub no_index_6 : IsNoIndex store_schema 6
-no_index_6 = ((λ (e : 1 ≡ 6). omega arith), ((λ (e : 3 ≡ 6). omega arith), ((λ (e : 5 ≡ 6). omega arith), ((λ (e : 7 ≡ 6). omega arith), tt))))
+no_index_6 = ((λ (e : 1 ≡ 6). omega arith), ((λ (e : 3 ≡ 6). omega arith), ((λ (e : 5 ≡ 6). omega arith), ((λ (e : 7 ≡ 6). omega arith), ((λ (e : 10 ≡ 6). omega arith), tt)))))
 
 pub no_index_8 : IsNoIndex store_schema 8
-no_index_8 = ((λ (e : 1 ≡ 8). omega arith), ((λ (e : 3 ≡ 8). omega arith), ((λ (e : 5 ≡ 8). omega arith), ((λ (e : 7 ≡ 8). omega arith), tt))))
+no_index_8 = ((λ (e : 1 ≡ 8). omega arith), ((λ (e : 3 ≡ 8). omega arith), ((λ (e : 5 ≡ 8). omega arith), ((λ (e : 7 ≡ 8). omega arith), ((λ (e : 10 ≡ 8). omega arith), tt)))))
+
+pub no_index_9 : IsNoIndex store_schema 9
+no_index_9 = ((λ (e : 1 ≡ 9). omega arith), ((λ (e : 3 ≡ 9). omega arith), ((λ (e : 5 ≡ 9). omega arith), ((λ (e : 7 ≡ 9). omega arith), ((λ (e : 10 ≡ 9). omega arith), tt)))))
 
 -- the other tables are as they were
 module _ (a b : Database) (lists : Lists) (are : Are a lists) where
@@ -152,28 +171,23 @@ module _ (a b : Database) (lists : Lists) (are : Are a lists) where
     taken = other_table 2 4 step.others (λ e. omega arith) no_index_4 _ are.taken;
     member = other_table 2 6 step.others (λ e. omega arith) no_index_6 _ are.member;
     audit = other_audit 2 step.others (λ e. omega arith);
+    secret = other_table 2 9 step.others (λ e. omega arith) no_index_9 _ are.secret;
   }
 
   -- where each row that passes is turned into one of the same values
   pub turns_resource : (test : Row → Bool) (turned : Row → Row) (key : Row → Value) (v : Row) → ((r : Row) → test (triple r) ≡ true → turned r ≡ key r ∷ v) → ((n : ℤ) → triple (Int n ∷ v) ≡ v)
       → (count : ℕ) → Turns 2 (λ r. test (triple r)) turned count a b → (count ≡ length (filter test lists.resources)) × Are b (record lists { resources = replicate count v ++ without test lists.resources })
   turns_resource test turned key v turns shown count step =
-      let found = filter (λ r. test (triple r)) (a.trees 2) in
-      let with_key : Row → Row = λ r. key r ∷ v in
-      let back = pull_back with_key (map with_key found) step.news (subst (λ xs. IsPermutation xs step.news) (same_turned _ turned with_key turns (a.trees 2)) step.same) found refl in
-      let news : step.news ≡ keyed_by v (map key back.0) = back.2 ∙ sym (map-map _ _ _) in
-      let many : length (map key back.0) ≡ count = sym (step.counted ∙ ap length news ∙ length-map _ _) in
-      let put = put_all_among triple v shown (map key back.0) _ _ (taken_out triple test _ _ are.resources)
-      (subst (λ rows. have_rowids rows ≡ true) news step.keyed) (subst (λ rows. are_fresh (filter (λ r. not (test (triple r))) (a.trees 2)) rows ≡ true) news step.fresh) in
-      let passed : IsPermutation (map triple found) (filter test lists.resources) = subst (λ xs. IsPermutation xs (filter test lists.resources)) (filter-map test triple _) (IsPermutation-filter test _ _ are.resources.same) in (
-        step.counted ∙ length_permutation _ _ step.same ∙ length-map _ _ ∙ sym (length-map found triple) ∙ sym (length_permutation _ _ passed),
+      let rows = turned_among triple 2 a b test turned key v lists.resources turns shown count step are.resources in (
+        rows.0,
         record {
           schema = step.schema ∙ are.schema;
           version = other_table 2 0 step.others (λ e. omega arith) no_index_0 _ are.version;
-          resources = subst₂ (λ rows n. IsTableOf triple rows (replicate n v ++ without test lists.resources)) (sym (step.rows ∙ ap (put_all (filter (λ r. not (test (triple r))) (a.trees 2))) news)) many put;
+          resources = rows.1;
           taken = other_table 2 4 step.others (λ e. omega arith) no_index_4 _ are.taken;
           member = other_table 2 6 step.others (λ e. omega arith) no_index_6 _ are.member;
           audit = other_audit 2 step.others (λ e. omega arith);
+          secret = other_table 2 9 step.others (λ e. omega arith) no_index_9 _ are.secret;
         },
       )
 
@@ -185,6 +199,7 @@ module _ (a b : Database) (lists : Lists) (are : Are a lists) where
     taken = subst (λ rows. IsTableOf triple rows (without test lists.taken)) (sym step.rows) (taken_out triple test _ _ are.taken);
     member = other_table 4 6 step.others (λ e. omega arith) no_index_6 _ are.member;
     audit = other_audit 4 step.others (λ e. omega arith);
+    secret = other_table 4 9 step.others (λ e. omega arith) no_index_9 _ are.secret;
   }
 
   pub takes_member : (test : Row → Bool) → Takes 6 (λ r. test (pair r)) a b → Are b (record lists { member = without test lists.member })
@@ -195,6 +210,7 @@ module _ (a b : Database) (lists : Lists) (are : Are a lists) where
     taken = other_table 6 4 step.others (λ e. omega arith) no_index_4 _ are.taken;
     member = subst (λ rows. IsTableOf pair rows (without test lists.member)) (sym step.rows) (taken_out pair test _ _ are.member);
     audit = other_audit 6 step.others (λ e. omega arith);
+    secret = other_table 6 9 step.others (λ e. omega arith) no_index_9 _ are.secret;
   }
 
   pub puts_resource : (n : ℤ) (v : Row) → Puts 2 (Int n ∷ v) a b → triple (Int n ∷ v) ≡ v → Are b (record lists { resources = v ∷ lists.resources })
@@ -205,6 +221,7 @@ module _ (a b : Database) (lists : Lists) (are : Are a lists) where
     taken = other_table 2 4 step.others (λ e. omega arith) no_index_4 _ are.taken;
     member = other_table 2 6 step.others (λ e. omega arith) no_index_6 _ are.member;
     audit = other_audit 2 step.others (λ e. omega arith);
+    secret = other_table 2 9 step.others (λ e. omega arith) no_index_9 _ are.secret;
   }
 
   pub puts_taken : (n : ℤ) (v : Row) → Puts 4 (Int n ∷ v) a b → triple (Int n ∷ v) ≡ v → Are b (record lists { taken = v ∷ lists.taken })
@@ -215,6 +232,7 @@ module _ (a b : Database) (lists : Lists) (are : Are a lists) where
     taken = subst (λ rows. IsTableOf triple rows (v ∷ lists.taken)) (sym step.rows) (put_among triple _ _ n v shown are.taken step.fresh);
     member = other_table 4 6 step.others (λ e. omega arith) no_index_6 _ are.member;
     audit = other_audit 4 step.others (λ e. omega arith);
+    secret = other_table 4 9 step.others (λ e. omega arith) no_index_9 _ are.secret;
   }
 
   pub puts_member : (n : ℤ) (v : Row) → Puts 6 (Int n ∷ v) a b → pair (Int n ∷ v) ≡ v → Are b (record lists { member = v ∷ lists.member })
@@ -225,6 +243,7 @@ module _ (a b : Database) (lists : Lists) (are : Are a lists) where
     taken = other_table 6 4 step.others (λ e. omega arith) no_index_4 _ are.taken;
     member = subst (λ rows. IsTableOf pair rows (v ∷ lists.member)) (sym step.rows) (put_among pair _ _ n v shown are.member step.fresh);
     audit = other_audit 6 step.others (λ e. omega arith);
+    secret = other_table 6 9 step.others (λ e. omega arith) no_index_9 _ are.secret;
   }
 
   pub puts_audit : (row v : Row) → Puts 8 row a b → entry row ≡ v → Are b (record lists { audit = v ∷ lists.audit })
@@ -235,4 +254,27 @@ module _ (a b : Database) (lists : Lists) (are : Are a lists) where
     taken = other_table 8 4 step.others (λ e. omega arith) no_index_4 _ are.taken;
     member = other_table 8 6 step.others (λ e. omega arith) no_index_6 _ are.member;
     audit = subst (λ rows. IsPermutation (map entry rows) (v ∷ lists.audit)) (sym step.rows) (IsPermutation-trans _ _ _ (IsPermutation-sym _ _ (IsPermutation-map entry _ _ (put_in row (a.trees 8) step.fresh))) (subst (λ (x : Row). IsPermutation (x ∷ map entry (a.trees 8)) (v ∷ lists.audit)) (sym shown) (IsPermutation-cons v _ _ are.audit)));
+    secret = other_table 8 9 step.others (λ e. omega arith) no_index_9 _ are.secret;
+  }
+
+  pub takes_secret : (test : Row → Bool) → Takes 9 (λ r. test (pair r)) a b → Are b (record lists { secret = without test lists.secret })
+  takes_secret test step = record {
+    schema = step.schema ∙ are.schema;
+    version = other_table 9 0 step.others (λ e. omega arith) no_index_0 _ are.version;
+    resources = other_table 9 2 step.others (λ e. omega arith) no_index_2 _ are.resources;
+    taken = other_table 9 4 step.others (λ e. omega arith) no_index_4 _ are.taken;
+    member = other_table 9 6 step.others (λ e. omega arith) no_index_6 _ are.member;
+    audit = other_audit 9 step.others (λ e. omega arith);
+    secret = subst (λ rows. IsTableOf pair rows (without test lists.secret)) (sym step.rows) (taken_out pair test _ _ are.secret);
+  }
+
+  pub puts_secret : (n : ℤ) (v : Row) → Puts 9 (Int n ∷ v) a b → pair (Int n ∷ v) ≡ v → Are b (record lists { secret = v ∷ lists.secret })
+  puts_secret n v step shown = record {
+    schema = step.schema ∙ are.schema;
+    version = other_table 9 0 step.others (λ e. omega arith) no_index_0 _ are.version;
+    resources = other_table 9 2 step.others (λ e. omega arith) no_index_2 _ are.resources;
+    taken = other_table 9 4 step.others (λ e. omega arith) no_index_4 _ are.taken;
+    member = other_table 9 6 step.others (λ e. omega arith) no_index_6 _ are.member;
+    audit = other_audit 9 step.others (λ e. omega arith);
+    secret = subst (λ rows. IsTableOf pair rows (v ∷ lists.secret)) (sym step.rows) (put_among pair _ _ n v shown are.secret step.fresh);
   }

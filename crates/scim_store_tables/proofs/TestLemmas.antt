@@ -1,5 +1,5 @@
 -- What a test of a column tells.
-use Rattle.std.proofs.Common.{◌≡◌, ℕ, ℤ, pos, List, [], ◌∷◌, ◌&&◌, not, filter, Bool, true, false, Some, refl, sym, ap, ◌∙◌}
+use Rattle.std.proofs.Common.{◌≡◌, ℕ, ℤ, pos, List, [], ◌∷◌, codes, ◌&&◌, not, filter, Bool, true, false, Some, refl, sym, ap, ◌∙◌}
 use Rattle.std.specs.Ordering.{is_eq, is_lt, is_ge, nat_cmp}
 use Rattle.std.specs.Cmp.Lexicographic.{slice_cmp}
 use Rattle.std.proofs.lemmas.Map.Text.{is_eq-slice_cmp}
@@ -19,7 +19,7 @@ use Rattle.scim_store_tables.specs.Reading.{is_resource, is_between}
 use Rattle.scim_store_tables.specs.code.Changes.{Takes}
 use Rattle.scim_store_tables.specs.Queries.{is_column}
 use Rattle.scim_store_tables.proofs.QueryLemmas.{passes}
-use Rattle.scim_store_tables.proofs.TextLemmas.{key_tests, resource_tests, between_tests}
+use Rattle.scim_store_tables.proofs.TextLemmas.{key_tests, resource_tests, between_tests, version_tests, version_columns}
 
 text_order : (a b : List ℕ) → value_cmp (Text a) (Text b) ≡ slice_cmp nat_cmp a b
 unfolding value_cmp lib.Ieee.is_nan lib.Ieee.lt
@@ -75,6 +75,10 @@ one false = refl
 -- one column is tested
 pub passes_text : (tree : ℕ) (text : List ℕ) (more r : Row) → passes tree (is_column 1 0 ∷ []) (col 1 0 ∷ []) [] (Text text ∷ more) r ≡ is_text text (column r 1)
 passes_text tree text more r = one _ ∙ is_the_text (column r 1) text
+
+-- the name of a setting is tested
+pub passes_version : (r : Row) → passes 0 version_tests (col 1 0 ∷ version_columns) [] [] r ≡ is_text (codes "version") (column r 1)
+passes_version r = one _ ∙ is_the_text (column r 1) (codes "version")
 
 -- two columns are tested
 pub passes_texts : (tree : ℕ) (first second : List ℕ) (r : Row) → passes tree key_tests (col 1 0 ∷ []) [] (Text first ∷ Text second ∷ []) r ≡ (is_text first (column r 1) && is_text second (column r 2))

@@ -1,6 +1,6 @@
 -- What the texts of the statements that write mean.
-use Rattle.std.proofs.Common.{List, [], ◌∷◌, codes, refl, ℕ}
-use Rattle.sqlite.specs.declared.types.Value.TheVariants.{Null}
+use Rattle.std.proofs.Common.{List, [], ◌∷◌, codes, refl, ℕ, pos}
+use Rattle.sqlite.specs.declared.types.Value.TheVariants.{Null, Int, Text}
 use Rattle.sqlite.specs.Term.{Term, lit, col, op1, op2}
 use Rattle.sqlite.specs.Collation.TheVariants.{Binary}
 use Rattle.sqlite_sql.specs.declared.ops.BinaryOp.TheVariants as by
@@ -78,6 +78,35 @@ delete_member_text = codes "DELETE FROM member WHERE value = ?1 AND group_id = ?
 pub deletes_member : IsDelete delete_member_text 3 6 key_tests
 unfolding understood everything
 deletes_member = record { command = refl; plain = (refl, refl) }
+
+abbrev pub insert_secret_text : List ℕ
+insert_secret_text = codes "INSERT INTO secret (id, door_code) VALUES (?1, ?2)"
+
+pub inserts_secret : IsInsert insert_secret_text 5 two_terms 3
+unfolding understood everything
+inserts_secret = record { command = refl; plain = (refl, refl) }
+
+abbrev pub delete_secret_text : List ℕ
+delete_secret_text = codes "DELETE FROM secret WHERE id = ?1"
+
+pub deletes_secret : IsDelete delete_secret_text 5 9 (is_column 1 0 ∷ [])
+unfolding understood everything
+deletes_secret = record { command = refl; plain = (refl, refl) }
+
+abbrev pub set_version_text : List ℕ
+set_version_text = codes "UPDATE setting SET number = 2 WHERE name = 'version'"
+
+-- the name is `version`
+abbrev pub version_tests : List Term
+version_tests = op2 (by.Compare Eq Binary) (col 1 1) (lit (Text (codes "version"))) ∷ []
+
+-- the rowid and the name stay, and the number is 2
+abbrev pub version_columns : List Term
+version_columns = col 1 0 ∷ col 1 1 ∷ lit (Int (pos 2)) ∷ []
+
+pub sets_version : IsUpdate set_version_text 0 0 version_tests version_columns
+unfolding understood everything
+sets_version = record { command = refl; plain = (refl, refl) }
 
 abbrev pub insert_audit_text : List ℕ
 insert_audit_text = codes "INSERT INTO audit (number, moment, client, op, kind, id, decided, rule, leaf, refusal) VALUES (?1, ?2, ?3, ?4, ?5, ?6, ?7, ?8, ?9, ?10)"

@@ -7,8 +7,9 @@ use Rattle.sqlite.specs.Order.{Row}
 use Rattle.sqlite.specs.Query.{Query}
 use Rattle.sqlite.specs.State.{State, IsUnchanged, HasCleanDisk}
 use Rattle.sqlite.proofs.StateLemmas.{survives_then}
-use Rattle.scim_store_tables.specs.Tables.{store_schema}
-use Rattle.scim_store_tables.specs.Reading.{Rests, HasTables, Spares}
+use Rattle.scim_store_tables.specs.Tables.{schema_of}
+use Rattle.scim_store_tables.specs.Reading.{Rests, HasTablesIn, SparesIn}
+use Rattle.scim_store_tables.specs.declared.versions.Version.{Version}
 use Rattle.scim_store_tables.specs.Asks.{IsAsk, IsAnswered, IsAsked}
 use Rattle.scim_store_tables.specs.code.Told.{OnlyAsks}
 use Rattle.scim_store_tables.proofs.AnswerLemmas.{unchanged_rests}
@@ -29,8 +30,8 @@ both_unchanged a b c first second = (
   second.2 ∙ first.2,
 )
 
-unchanged_has : (a b : State) → IsUnchanged a b → HasTables a → HasTables b
-unchanged_has a b same has opened = ap (λ (d : Database). d.schema) same.0.now_is ∙ has same.0.was_open
+unchanged_has : (v : Version) (a b : State) → IsUnchanged a b → HasTablesIn v a → HasTablesIn v b
+unchanged_has v a b same has opened = ap (λ (d : Database). d.schema) same.0.now_is ∙ has same.0.was_open
 
 rests_behind : (a b c : State) → IsUnchanged a b → Rests b c → Rests a c
 rests_behind a b c same rests = record {
@@ -47,46 +48,46 @@ pub err_behind : {T : Type 0} (a b c : State) (r : Result T Error) → IsUnchang
 err_behind a b c (Ok x) same rests = tt
 err_behind a b c (Err e) same rests = rests_behind a b c same rests
 
-spares_then : (a b c : State) → Spares a b → (HasCleanDisk b → HasTables a → IsUnchanged a b) → Spares b c → Spares a c
-spares_then a b c one kept two =
+spares_then : (v : Version) (a b c : State) → SparesIn v a b → (HasCleanDisk b → HasTablesIn v a → IsUnchanged a b) → SparesIn v b c → SparesIn v a c
+spares_then v a b c one kept two =
     survives_then a b c _ _ _ (λ _ db other. other) (λ clean db other has.
     (let same = kept (omega (arith, clean, two.clean)) (λ _. has) in other (ap (λ (d : Database). d.schema) same.0.now_is ∙ has))) one two
 
 -- ---- a query is asked
 
-pub asked_told : (IsTold : Database → List Row → Type 0) (text : List ℕ) (q : Query) (old new : State) (r : Result (Vec Row) Error) → IsAsk text q
-    → ((rows : List Row) → IsAnswered q [] old new rows → IsUnchanged old new × IsTold old.now rows) → IsAsked text [] old new r → OnlyAsks (λ db rows. IsTold db rows.items) old new r
-asked_told IsTold text q old new r is tells asked = record {
+pub asked_told : (v : Version) (IsTold : Database → List Row → Type 0) (text : List ℕ) (q : Query) (old new : State) (r : Result (Vec Row) Error) → IsAsk v text q
+    → ((rows : List Row) → IsAnswered q [] old new rows → IsUnchanged old new × IsTold old.now rows) → IsAsked text [] old new r → OnlyAsks v (λ db rows. IsTold db rows.items) old new r
+asked_told v IsTold text q old new r is tells asked = record {
   mode = asked.mode;
-  spares = asked.spares q is;
-  told = λ clean has. both_then r _ _ _ (λ rows was_open reads. tells rows.items (reads q is (has was_open))) (asked.was_open clean) (asked.read clean);
+  spares = asked.spares v q is;
+  told = λ clean has. both_then r _ _ _ (λ rows was_open reads. tells rows.items (reads v q is (has was_open))) (asked.was_open clean) (asked.read clean);
   rests = λ clean has. asked.rests clean;
 }
 
 -- ---- one behind another
 
 -- one call behind another tells both
-pub told_both : {T U : Type 0} (P : Database → T → Type 0) (Q : Database → U → Type 0) (a b c : State) (x : T) (r : Result U Error) → OnlyAsks P a b (Ok x) → OnlyAsks Q b c r → OnlyAsks (λ db y. P db x × Q db y) a c r
-told_both P Q a b c x r first second = record {
+pub told_both : {T U : Type 0} {v : Version} (P : Database → T → Type 0) (Q : Database → U → Type 0) (a b c : State) (x : T) (r : Result U Error) → OnlyAsks v P a b (Ok x) → OnlyAsks v Q b c r → OnlyAsks v (λ db y. P db x × Q db y) a c r
+told_both {v = v} P Q a b c x r first second = record {
   mode = λ idle. second.mode (first.mode idle);
-  spares = spares_then a b c first.spares (λ clean has. (first.told clean has).0) second.spares;
+  spares = spares_then v a b c first.spares (λ clean has. (first.told clean has).0) second.spares;
   told = λ clean has.
       (let here = first.told (earlier clean) has in
-      if_then r _ _ (λ y next. (both_unchanged a b c here.0 next.0, (here.1, subst (λ (db : Database). Q db y) here.0.0.now_is next.1))) (second.told clean (unchanged_has a b here.0 has)));
-  rests = λ clean has. (let here = first.told (earlier clean) has in err_behind a b c r here.0 (second.rests clean (unchanged_has a b here.0 has)));
+      if_then r _ _ (λ y next. (both_unchanged a b c here.0 next.0, (here.1, subst (λ (db : Database). Q db y) here.0.0.now_is next.1))) (second.told clean (unchanged_has v a b here.0 has)));
+  rests = λ clean has. (let here = first.told (earlier clean) has in err_behind a b c r here.0 (second.rests clean (unchanged_has v a b here.0 has)));
 }
   where
     earlier : HasCleanDisk c → HasCleanDisk b
     earlier clean = omega (arith, clean, second.spares.clean)
 
 -- the error of a call is that of the whole
-pub told_failed : {T U : Type 0} (P : Database → T → Type 0) (Q : Database → U → Type 0) (a b : State) (e : Error) (r : Result U Error) → IsErr r → OnlyAsks P a b (Err e) → OnlyAsks Q a b r
+pub told_failed : {T U : Type 0} {v : Version} (P : Database → T → Type 0) (Q : Database → U → Type 0) (a b : State) (e : Error) (r : Result U Error) → IsErr r → OnlyAsks v P a b (Err e) → OnlyAsks v Q a b r
 told_failed P Q a b e (Ok y) fails asks = absurd cc
 told_failed P Q a b e (Err f) fails asks = record { mode = asks.mode; spares = asks.spares; told = λ clean has. tt; rests = asks.rests }
 
 -- what is made of what was told
-pub told_as : {T U : Type 0} (P : Database → T → Type 0) (Q : Database → U → Type 0) (a b : State) (x : T) (r : Result U Error) → OnlyAsks P a b (Ok x)
-    → IfOk r (λ y. a.now.schema ≡ store_schema → P a.now x → Q a.now y) → OnlyAsks Q a b r
+pub told_as : {T U : Type 0} {v : Version} (P : Database → T → Type 0) (Q : Database → U → Type 0) (a b : State) (x : T) (r : Result U Error) → OnlyAsks v P a b (Ok x)
+    → IfOk r (λ y. a.now.schema ≡ schema_of v → P a.now x → Q a.now y) → OnlyAsks v Q a b r
 told_as P Q a b x r asks makes = record {
   mode = asks.mode;
   spares = asks.spares;
@@ -95,7 +96,7 @@ told_as P Q a b x r asks makes = record {
 }
 
 -- what was told, in other words
-pub told_so : {T : Type 0} (P Q : Database → T → Type 0) (a b : State) (r : Result T Error) → ((x : T) → P a.now x → Q a.now x) → OnlyAsks P a b r → OnlyAsks Q a b r
+pub told_so : {T : Type 0} {v : Version} (P Q : Database → T → Type 0) (a b : State) (r : Result T Error) → ((x : T) → P a.now x → Q a.now x) → OnlyAsks v P a b r → OnlyAsks v Q a b r
 told_so P Q a b r so asks = record {
   mode = asks.mode;
   spares = asks.spares;

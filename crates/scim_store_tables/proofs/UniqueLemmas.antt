@@ -1,10 +1,9 @@
 -- No two rows of a table have the same key.
-use Rattle.std.proofs.Common.{◌≡◌, ℕ, List, [], ◌∷◌, ◌&&◌, ◌||◌, not, map, Bool, true, false, Some, refl, sym, subst, ◌∙◌}
+use Rattle.std.proofs.Common.{◌≡◌, ℕ, List, [], ◌∷◌, ◌&&◌, ◌||◌, not, Bool, true, false, Some, refl, sym, subst, ◌∙◌}
 use Rattle.std.specs.List.{list_any, list_all, AllByRecursion}
-use Rattle.std.specs.Ordering.{is_eq, is_ne, nat_cmp}
+use Rattle.std.specs.Ordering.{is_eq, is_ne}
 use Rattle.std.specs.declared.cmp.Ordering.{Ordering}
 use Rattle.std.specs.declared.cmp.Ordering.TheVariants.{Less, Equal, Greater}
-use Rattle.std.specs.Cmp.Lexicographic.{slice_cmp}
 use Rattle.std.proofs.lemmas.Map.Text.{is_eq-slice_cmp}
 use Rattle.std.proofs.lemmas.Slice.Eq.{bytes_eq-Decides}
 use Rattle.sqlite_value.specs.Keys.{plain, first_key}
@@ -12,8 +11,6 @@ use Rattle.sqlite_trees.proofs.ListLemmas.{all_weaker, all_both, all-permutation
 use Rattle.sqlite_schema.specs.Rules.{agree, clashes, differ, equal, guards, passes, Keeps}
 use Rattle.sqlite_schema.specs.declared.schema.Constraint.TheVariants.{Unique}
 use Rattle.sqlite_schema.specs.declared.schema.Index.{Index}
-use Rattle.sqlite_sql.specs.declared.ops.BinaryOp.TheVariants as by
-use Rattle.sqlite_sql.specs.declared.ops.CompareOp.TheVariants.{Eq, Ne}
 use Rattle.sqlite.specs.Collation.TheVariants.{Binary}
 use Rattle.sqlite.specs.declared.types.Value.{Value}
 use Rattle.sqlite.specs.declared.types.Value.TheVariants.{Null, Int, Real, Text, Blob}
@@ -25,7 +22,6 @@ use Rattle.sqlite.specs.Tree.{Trees, IsAscending, rowid}
 use Rattle.sqlite.specs.View.{is_int}
 use Rattle.scim_store_tables.specs.Lists.{IsTableOf, triple}
 use Rattle.scim_store_tables.specs.Tables.{store_schema, resource_table, taken_table}
-use Rattle.scim_store_tables.specs.code.Schema.{store_indexes}
 use Rattle.scim_store_tables.proofs.KeyLemmas.{keyed_same}
 use Rattle.scim_store_tables.proofs.RowidLemmas.{pairs}
 use Rattle.scim_store_tables.proofs.SchemaLemmas.{indexes_are}

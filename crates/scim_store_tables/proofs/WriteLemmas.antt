@@ -10,14 +10,14 @@ use Rattle.sqlite.specs.Table.{Table}
 use Rattle.sqlite.specs.Edit.{next_rowid}
 use Rattle.sqlite.specs.Term.{eval_all}
 use Rattle.sqlite.specs.State.{State, ExecutesInside}
-use Rattle.scim_store_tables.specs.Tables.{resource_table, taken_table, member_table}
-use Rattle.scim_store_tables.specs.Lists.{Lists, Are, without, has_text, has_texts, pair, triple, resource_values, name_values, member_values}
+use Rattle.scim_store_tables.specs.Tables.{resource_table, taken_table, member_table, secret_table}
+use Rattle.scim_store_tables.specs.Lists.{Lists, Are, without, has_text, has_texts, pair, triple, resource_values, name_values, member_values, secret_values}
 use Rattle.scim_store_tables.specs.code.Changes.{Turns}
 use Rattle.scim_store_tables.specs.Queries.{is_column}
-use Rattle.scim_store_tables.proofs.TextLemmas.{insert_resource_text, inserts_resource, update_resource_text, updates_resource, resource_columns, delete_resource_text, deletes_resource, insert_name_text, inserts_name, delete_name_text, deletes_name, insert_member_text, inserts_member, delete_member_text, deletes_member, three_terms, two_terms, key_tests}
+use Rattle.scim_store_tables.proofs.TextLemmas.{insert_resource_text, inserts_resource, update_resource_text, updates_resource, resource_columns, delete_resource_text, deletes_resource, insert_name_text, inserts_name, delete_name_text, deletes_name, insert_member_text, inserts_member, delete_member_text, deletes_member, insert_secret_text, inserts_secret, delete_secret_text, deletes_secret, three_terms, two_terms, key_tests}
 use Rattle.scim_store_tables.proofs.ChangeLemmas.{cast_null, cast_int, inserted, updated, deleted, inside, inside_by}
 use Rattle.scim_store_tables.proofs.TestLemmas.{text_of, passes_text, passes_texts, takes_same}
-use Rattle.scim_store_tables.proofs.TableLemmas.{turns_resource, takes_resource, takes_taken, takes_member, puts_resource, puts_taken, puts_member}
+use Rattle.scim_store_tables.proofs.TableLemmas.{turns_resource, takes_resource, takes_taken, takes_member, takes_secret, puts_resource, puts_taken, puts_member, puts_secret}
 
 -- the statement edits the lists, and the transaction goes on
 abbrev pub Edits : State → State → Result ℕ Error → (Lists → Lists) → Type 0
@@ -87,3 +87,20 @@ module _ (old new : State) (r : Result ℕ Error) where
       inside delete_member_text params old new r (λ count h lists are.
       let step = deleted old new delete_member_text params table are.schema 3 key_tests deletes_member (λ tally does. does) are.member.keys count h in
       takes_member old.now new.now lists are (has_texts value group_id) (takes_same 6 _ (λ r. has_texts value group_id (pair r)) old.now new.now (passes_texts 6 value group_id) step))
+
+  pub inserts_secret_row : (id code : List ℕ) → ExecutesInside 0 insert_secret_text (Text id ∷ Text code ∷ []) old new r
+      → Edits old new r (λ lists. record lists { secret = secret_values id code ∷ lists.secret })
+  inserts_secret_row id code =
+      let params : Row = Text id ∷ Text code ∷ [] in
+      let table : Table = record secret_table { tree = 9 } in
+      inside insert_secret_text params old new r (λ count h lists are.
+      let step = inserted old new insert_secret_text params table are.schema 5 two_terms 3 (Int (next_rowid (old.now.trees 9)) ∷ secret_values id code) inserts_secret refl (rw cast_null) (λ tally does. does) count h in
+      puts_secret old.now new.now lists are _ _ step refl)
+
+  pub deletes_secret_row : (id : List ℕ) → ExecutesInside 0 delete_secret_text (Text id ∷ []) old new r → Edits old new r (λ lists. record lists { secret = without (has_text 0 id) lists.secret })
+  deletes_secret_row id =
+      let params : Row = Text id ∷ [] in
+      let table : Table = record secret_table { tree = 9 } in
+      inside delete_secret_text params old new r (λ count h lists are.
+      let step = deleted old new delete_secret_text params table are.schema 5 (is_column 1 0 ∷ []) deletes_secret (λ tally does. does) are.secret.keys count h in
+      takes_secret old.now new.now lists are (has_text 0 id) (takes_same 9 _ (λ r. has_text 0 id (pair r)) old.now new.now (passes_text 9 id []) step))

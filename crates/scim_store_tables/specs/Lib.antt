@@ -3,6 +3,7 @@ pub mod Lists
 pub mod Audit
 pub mod Steps
 pub mod Opening
+pub mod Migrating
 pub mod Reading
 pub mod Looking
 pub mod Whole

@@ -1,4 +1,4 @@
--- The contents of the five tables, as plain lists of rows.
+-- The contents of the tables, as plain lists of rows.
 use Rattle.std.specs.Prelude.{◌≡◌, ◌≤◌, ℕ, ℤ, pos, Bool, true, false, not, ◌&&◌, codes, List, [], ◌∷◌, map, filter, length, IsPermutation}
 use Rattle.std.specs.List.{AllByRecursion}
 use Rattle.std.specs.Ordering.{is_eq, nat_cmp}
@@ -9,7 +9,9 @@ use Rattle.sqlite.specs.Order.{Row, column}
 use Rattle.sqlite.specs.Tree.{rowid, has_rowid}
 use Rattle.sqlite.specs.View.{is_int}
 use Rattle.sqlite.specs.Effect.{Database}
-use Rattle.scim_store_tables.specs.Tables.{store_schema}
+use Rattle.scim_store_tables.specs.Tables.{schema_of}
+use Rattle.scim_store_tables.specs.declared.versions.Version.{Version}
+use Rattle.scim_store_tables.specs.declared.versions.Version.TheVariants.{One, Two}
 
 -- The row that a query returns for the row `r` of a table of two columns.
 abbrev pub pair : Row → Row
@@ -35,9 +37,14 @@ pub record IsTableOf (shows : Row → Row) (rows values : List Row) : Type 0 whe
   pub keys : AreKeyed rows
   pub same : IsPermutation (map shows rows) values
 
--- The one row of `setting`, which names version 1.
-abbrev pub version_values : Row
-version_values = Text (codes "version") ∷ Int (pos 1) ∷ []
+-- The number of a version.
+abbrev pub version_number : Version → ℕ
+version_number One = 1
+version_number Two = 2
+
+-- The one row of `setting`, which names the version.
+abbrev pub version_values : Version → Row
+version_values version = Text (codes "version") ∷ Int (pos (version_number version)) ∷ []
 
 -- The contents of the tables except `setting`. The rows of a table may be in any order.
 pub record Lists : Type 0 where
@@ -49,19 +56,35 @@ pub record Lists : Type 0 where
   pub member : List Row
   -- Columns number, moment, client, op, kind, id, decided, rule, leaf and refusal.
   pub audit : List Row
+  -- Columns id of the user and door code.
+  pub secret : List Row
 
--- The database has exactly the five tables, with these rows and version 1.
-pub record Are (db : Database) (lists : Lists) : Type 0 where
-  pub schema : db.schema ≡ store_schema
-  pub version : IsTableOf pair (db.trees 0) (version_values ∷ [])
+-- The table `secret` of a version has these rows. Version 1 has no such table, and so no rows.
+abbrev pub AreSecrets : Version → Database → List Row → Type 0
+AreSecrets One db rows = rows ≡ []
+AreSecrets Two db rows = IsTableOf pair (db.trees 9) rows
+
+-- The database has exactly the tables of a version, with these rows, and names the version.
+pub record AreIn (v : Version) (db : Database) (lists : Lists) : Type 0 where
+  pub schema : db.schema ≡ schema_of v
+  pub version : IsTableOf pair (db.trees 0) (version_values v ∷ [])
   pub resources : IsTableOf triple (db.trees 2) lists.resources
   pub taken : IsTableOf triple (db.trees 4) lists.taken
   pub member : IsTableOf pair (db.trees 6) lists.member
   pub audit : IsPermutation (map entry (db.trees 8)) lists.audit
+  pub secret : AreSecrets v db lists.secret
+
+-- The database has exactly the tables of version 1, with these rows.
+abbrev pub AreOld : Database → Lists → Type 0
+AreOld = AreIn One
+
+-- The database has exactly the tables of version 2, with these rows.
+abbrev pub Are : Database → Lists → Type 0
+Are = AreIn Two
 
 -- The contents of tables without rows.
 abbrev pub no_rows : Lists
-no_rows = record { resources = []; taken = []; member = []; audit = [] }
+no_rows = record { resources = []; taken = []; member = []; audit = []; secret = [] }
 
 -- The row of a resource.
 abbrev pub resource_values : List ℕ → ℕ → List ℕ → Row
@@ -74,6 +97,10 @@ name_values attribute folded id = Text attribute ∷ Text folded ∷ Text id ∷
 -- The row of a member, with its group's id.
 abbrev pub member_values : List ℕ → List ℕ → Row
 member_values value group_id = Text value ∷ Text group_id ∷ []
+
+-- The row of a door code, with its user's id.
+abbrev pub secret_values : List ℕ → List ℕ → Row
+secret_values id code = Text id ∷ Text code ∷ []
 
 -- Whether a value is the text.
 abbrev pub is_text : List ℕ → Value → Bool

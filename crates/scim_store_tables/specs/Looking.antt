@@ -8,6 +8,8 @@ use Rattle.sqlite.specs.Listing.{understood, reads_listing, IsSourceOf}
 use Rattle.sqlite.specs.Order.{Row, column}
 use Rattle.sqlite_resolve.specs.declared.compiled.Compiled.{Compiled}
 use Rattle.sqlite_resolve.specs.declared.error.CompileError.{CompileError}
+use Rattle.scim_store_tables.specs.Lists.{version_number}
+use Rattle.scim_store_tables.specs.declared.versions.Version.{Version}
 
 -- The number of the setting `version`, in any table `setting` that has these columns.
 abbrev pub version_text : List ℕ
@@ -25,15 +27,15 @@ IsRefusedBy text db =
     ((fault : CompileError) × (understood db.schema text ≡ Err fault))
     ⊎ ((c : Compiled) × (source : Database) × (understood db.schema text ≡ Ok c) × IsSourceOf (reads_listing db.schema text) db source × RefusesToRead None c.command source [] (SqliteFailure TypeMismatch))
 
--- The first row has the number 1 in its first column.
-abbrev pub BeginsWithOne : List Row → Type 0
-BeginsWithOne [] = ⊥
-BeginsWithOne (row ∷ more) = column row 0 ≡ Int (pos 1)
+-- The first row has the number of a version, 1 or 2, in its first column.
+abbrev pub BeginsWithVersion : List Row → Type 0
+BeginsWithVersion [] = ⊥
+BeginsWithVersion (row ∷ more) = (version : Version) × (column row 0 ≡ Int (pos (version_number version)))
 
--- A result of the query for the version begins with 1.
-abbrev pub NamesOne : Database → Type 0
-NamesOne db = (rows : List Row) × IsResultOf version_text db rows × BeginsWithOne rows
+-- A result of the query for the version begins with 1 or 2.
+abbrev pub NamesKnown : Database → Type 0
+NamesKnown db = (rows : List Row) × IsResultOf version_text db rows × BeginsWithVersion rows
 
--- A result of the query for the version doesn't begin with 1, or the query is refused.
-abbrev pub NamesNotOne : Database → Type 0
-NamesNotOne db = ((rows : List Row) × IsResultOf version_text db rows × (¬ BeginsWithOne rows)) ⊎ IsRefusedBy version_text db
+-- A result of the query for the version begins with neither 1 nor 2, or the query is refused.
+abbrev pub NamesUnknown : Database → Type 0
+NamesUnknown db = ((rows : List Row) × IsResultOf version_text db rows × (¬ BeginsWithVersion rows)) ⊎ IsRefusedBy version_text db

@@ -8,8 +8,10 @@ use Rattle.sqlite.specs.Effect.{Database}
 use Rattle.sqlite.specs.Order.{Row, column, value_cmp}
 use Rattle.sqlite.specs.State.{State, IsUnchanged, Survives}
 use Rattle.sqlite.specs.Tree.{IsAscending}
-use Rattle.scim_store_tables.specs.Tables.{store_schema}
+use Rattle.scim_store_tables.specs.Tables.{schema_of}
 use Rattle.scim_store_tables.specs.Lists.{Lists, Are, pair, triple, entry, has_text}
+use Rattle.scim_store_tables.specs.declared.versions.Version.{Version}
+use Rattle.scim_store_tables.specs.declared.versions.Version.TheVariants.{One, Two}
 
 -- After a failed query the connection is closed, or its database is unchanged or as the last commit left it.
 pub record Rests (old new : State) : Type 0 where
@@ -17,22 +19,47 @@ pub record Rests (old new : State) : Type 0 where
   pub now : IsTrue new.is_open → (new.now ≡ old.now) ⊎ (new.now ≡ old.committed)
   pub committed : IsTrue new.is_open → new.committed ≡ old.committed
 
--- If the connection is open, its database has the five tables and nothing else.
+-- If the connection is open, its database has the tables of a version and nothing else.
+abbrev pub HasTablesIn : Version → State → Type 0
+HasTablesIn version s = IsTrue s.is_open → s.now.schema ≡ schema_of version
+
+-- If the connection is open, its database has the six tables of version 2 and nothing else.
 abbrev pub HasTables : State → Type 0
-HasTables s = IsTrue s.is_open → s.now.schema ≡ store_schema
+HasTables = HasTablesIn Two
 
--- If the database has exactly the five tables, a crash leaves only a state that a crash before the call could
--- also leave.
+-- If the database has exactly the tables of a version, a crash leaves only a state that a crash before the call
+-- could also leave.
+abbrev pub SparesIn : Version → State → State → Type 0
+SparesIn version old new = Survives old new (λ _. old.now.schema ≢ schema_of version)
+
+-- If the database has exactly the six tables of version 2, a crash leaves only a state that a crash before the
+-- call could also leave.
 abbrev pub Spares : State → State → Type 0
-Spares old new = Survives old new (λ _. old.now.schema ≢ store_schema)
+Spares = SparesIn Two
 
--- If the connection is open, its database has exactly the five tables, with these rows.
+-- If the connection is open, its database has exactly the six tables of version 2, with these rows.
 abbrev pub Holds : State → Lists → Type 0
 Holds s lists = IsTrue s.is_open → Are s.now lists
 
--- The rows that queries return from the four tables other than `setting`, for any contents of the database.
+-- The rows that a query returns from the table `secret` of a version. Version 1 has no such table.
+abbrev pub shown_secrets : Version → Database → List Row
+shown_secrets One db = []
+shown_secrets Two db = map pair (db.trees 9)
+
+-- The rows that queries return from the tables of a version other than `setting`, for any contents of the
+-- database.
+abbrev pub shown_in : Version → Database → Lists
+shown_in version db = record {
+  resources = map triple (db.trees 2);
+  taken = map triple (db.trees 4);
+  member = map pair (db.trees 6);
+  audit = map entry (db.trees 8);
+  secret = shown_secrets version db;
+}
+
+-- The rows that queries return from the tables of version 2 other than `setting`.
 abbrev pub shown : Database → Lists
-shown db = record { resources = map triple (db.trees 2); taken = map triple (db.trees 4); member = map pair (db.trees 6); audit = map entry (db.trees 8) }
+shown = shown_in Two
 
 -- The rows that a query returns from the table `setting`, for any contents of the database.
 abbrev pub shown_settings : Database → List Row

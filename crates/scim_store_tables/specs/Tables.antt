@@ -1,4 +1,4 @@
--- The five tables of a database file, in version 1.
+-- The tables of a database file, in versions 1 and 2.
 use Rattle.std.specs.Prelude.{true, false, Bool, [], ◌∷◌, Some, None, codes, List, ℕ}
 use Rattle.sqlite.specs.Collation.TheVariants.{Binary}
 use Rattle.sqlite.specs.declared.types.Value.TheVariants.{Null}
@@ -8,6 +8,8 @@ use Rattle.sqlite.specs.Kind.{Kind}
 use Rattle.sqlite_schema.specs.declared.schema.Column.{Column}
 use Rattle.sqlite.specs.Kind.TheVariants.{Integer, Text}
 use Rattle.sqlite.specs.Change.{created}
+use Rattle.scim_store_tables.specs.declared.versions.Version.{Version}
+use Rattle.scim_store_tables.specs.declared.versions.Version.TheVariants.{One, Two}
 
 -- The schema without tables, indexes and views.
 abbrev pub no_schema : Schema
@@ -69,7 +71,20 @@ audit_table = record {
   is_counted = false;
 }
 
--- The schema of exactly the five tables, in this order. Their trees are 0, 2, 4, 6 and 8. Each table except
--- the last has an index, in the next tree.
+-- The table `secret`, which only version 2 has: each door code with the id of its user.
+abbrev pub secret_table : Table
+secret_table = table (codes "secret") (column (codes "id") Text false ∷ column (codes "door_code") Text true ∷ []) (1 ∷ [])
+
+-- The schema of version 1: exactly the first five tables, in this order. Their trees are 0, 2, 4, 6 and 8. Each
+-- table except the last has an index, in the next tree.
+abbrev pub old_schema : Schema
+old_schema = created (created (created (created (created no_schema setting_table) resource_table) taken_table) member_table) audit_table
+
+-- The schema of version 2: exactly the six tables. The tree of `secret` is 9, and its index has the next one.
 abbrev pub store_schema : Schema
-store_schema = created (created (created (created (created no_schema setting_table) resource_table) taken_table) member_table) audit_table
+store_schema = created old_schema secret_table
+
+-- The schema of a version.
+abbrev pub schema_of : Version → Schema
+schema_of One = old_schema
+schema_of Two = store_schema

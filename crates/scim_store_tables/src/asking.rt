@@ -6,8 +6,10 @@ ghost use Rattle.sqlite.specs.State.{HasCleanDisk, IsUnchanged};
 ghost use Rattle.sqlite.specs.Held.{state};
 ghost use Rattle.sqlite.specs.Values.{bound};
 ghost use Rattle.scim_store_tables.specs.Lists.{Lists, has_text, has_texts};
-ghost use Rattle.scim_store_tables.specs.Reading.{Rests, Spares, HasTables, Holds, Tells, Finds, IsTextOfFirst, shown, group_alone, is_resource, is_between};
+ghost use Rattle.scim_store_tables.specs.Reading.{Rests, Spares, SparesIn, HasTables, Holds, Tells, Finds, IsTextOfFirst, shown, group_alone, is_resource, is_between};
 ghost use Rattle.scim_store_tables.specs.Asks.{IsAsked};
+ghost use Rattle.scim_store_tables.specs.Queries.{HasTable};
+ghost use Rattle.scim_store_tables.specs.declared.versions.Version.{Version};
 ghost use Rattle.scim_store_tables.specs.code.Told.{OnlyAsks, AreRows, AreKeys};
 
 use crate::queries::{Table, keys_query, rows_query};
@@ -99,18 +101,45 @@ pub fn find_owner<S: Alter>(
     first_text(rows.as_slice())
 }
 
-/// Reads all rows of a table in sorted order. The columns aren't checked. Fails as [`ask`] does.
+/// Returns the door code of the user with this id; `None` if the user has none.
+///
+/// Fails as [`ask`] does.
+pub fn find_secret<S: Alter>(conn: &mut Connection<S>, id: &str) -> Result<Option<String>, Error>
+    ensures mode { conn.old.in_transaction ≡ false → conn.new.in_transaction ≡ false }
+    ensures spares { Spares (state S.Store conn.old) (state S.Store conn.new) }
+    ensures unchanged { HasCleanDisk (state S.Store conn.new) → HasTables (state S.Store conn.old)
+        → OnOk result (IsUnchanged (state S.Store conn.old) (state S.Store conn.new)) }
+    ensures found { HasCleanDisk (state S.Store conn.new)
+        → IfOk result (λ found. (lists : Lists) → Holds (state S.Store conn.old) lists
+        → Finds 1 (filter (has_text 0 id.now) lists.secret) (state S.Store conn.old)
+        (state S.Store conn.new) (option_map string_bytes found)) }
+    ensures rests { HasCleanDisk (state S.Store conn.new) → (lists : Lists)
+        → Holds (state S.Store conn.old) lists
+        → Rests (state S.Store conn.old) (state S.Store conn.new) }
+{
+    let rows = ask(
+        conn,
+        "SELECT door_code FROM secret WHERE id = ?1",
+        params![id],
+    )?;
+    first_text(rows.as_slice())
+}
+
+/// Reads all rows of a table in sorted order. The columns aren't checked. The database must have the tables of
+/// a version that has this table. Fails as [`ask`] does.
 pub(crate) fn read_rows<S: Alter>(conn: &mut Connection<S>, table: Table) -> Result<Vec<Row>, Error>
-    ensures { OnlyAsks (λ db rows. AreRows table db rows.items) (state S.Store conn.old)
+    ensures { (version : Version) → HasTable version table
+        → OnlyAsks version (λ db rows. AreRows table db rows.items) (state S.Store conn.old)
         (state S.Store conn.new) result }
 {
     ask(conn, rows_query(table), &[])
 }
 
-/// Reads the keys of a table in sorted order. They are strictly ascending if no key occurs twice. Fails as
-/// [`ask`] does.
+/// Reads the keys of a table in sorted order. They are strictly ascending if no key occurs twice. The database
+/// must have the tables of a version that has this table. Fails as [`ask`] does.
 pub(crate) fn read_keys<S: Alter>(conn: &mut Connection<S>, table: Table) -> Result<Vec<Row>, Error>
-    ensures { OnlyAsks (λ db keys. AreKeys table db keys.items) (state S.Store conn.old)
+    ensures { (version : Version) → HasTable version table
+        → OnlyAsks version (λ db keys. AreKeys table db keys.items) (state S.Store conn.old)
         (state S.Store conn.new) result }
 {
     ask(conn, keys_query(table), &[])

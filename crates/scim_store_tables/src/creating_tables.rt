@@ -8,7 +8,7 @@ ghost use Rattle.scim_store_tables.specs.Steps.{DoesIn, Makes, Became, Undoes, L
 ghost use Rattle.scim_store_tables.specs.Opening.{MakesTables};
 ghost use Rattle.scim_store_tables.specs.code.Opening as spec;
 ghost use Rattle.scim_store_tables.specs.code.Opening.{IsBefore, IsBehind};
-ghost use Rattle.scim_store_tables.specs.declared.queries.Table.TheVariants.{Setting, Taken, Audit};
+ghost use Rattle.scim_store_tables.specs.declared.queries.Table.TheVariants.{Setting, Taken, Secret};
 
 use crate::queries::Table;
 use sqlite::{Alter, Connection, Error, Transaction};
@@ -31,23 +31,24 @@ fn creation(table: Table) -> &'static str
         Table::Audit => {
             "CREATE TABLE audit (number INTEGER PRIMARY KEY, moment INTEGER, client TEXT, op INTEGER, kind INTEGER, id TEXT, decided INTEGER, rule INTEGER, leaf TEXT, refusal INTEGER)"
         }
+        Table::Secret => "CREATE TABLE secret (id TEXT PRIMARY KEY, door_code TEXT NOT NULL)",
     }
 }
 
-/// Creates a table. The tables that come before it in the schema must exist.
+/// Creates a table. The tables that come before it in the schema must exist and have no rows.
 fn create_table<S: Alter>(tx: &mut Transaction<'_, S>, table: Table) -> Result<usize, Error>
     ensures does { DoesIn S.Store tx.old tx.new result (Makes (IsBefore table) (IsBehind table)) }
 {
     tx.execute(creation(table), &[])
 }
 
-/// Writes the version of the tables, 1, to `setting`.
+/// Writes the version of the tables, 2, to `setting`.
 fn insert_version<S: Alter>(tx: &mut Transaction<'_, S>) -> Result<usize, Error>
     ensures does { DoesIn S.Store tx.old tx.new result
-        (Makes (IsBehind Audit) (λ db. Are db no_rows)) }
+        (Makes (IsBehind Secret) (λ db. Are db no_rows)) }
 {
     tx.execute(
-        "INSERT INTO setting (name, number) VALUES ('version', 1)",
+        "INSERT INTO setting (name, number) VALUES ('version', 2)",
         &[],
     )
 }
@@ -61,8 +62,17 @@ fn create_first<S: Alter>(tx: &mut Transaction<'_, S>) -> Result<usize, Error>
     create_table(tx, Table::Taken)
 }
 
-/// Creates the five tables inside a transaction, in a database without tables, indexes and views, and writes
-/// version 1 to `setting`.
+/// Creates the last three tables: `member`, `audit` and `secret`.
+fn create_last<S: Alter>(tx: &mut Transaction<'_, S>) -> Result<usize, Error>
+    ensures does { DoesIn S.Store tx.old tx.new result (Makes (IsBehind Taken) (IsBehind Secret)) }
+{
+    create_table(tx, Table::Member)?;
+    create_table(tx, Table::Audit)?;
+    create_table(tx, Table::Secret)
+}
+
+/// Creates the six tables inside a transaction, in a database without tables, indexes and views, and writes
+/// version 2 to `setting`.
 ///
 /// Returns the number of rows written, as the database counts them. Fails with the database's error, for
 /// instance if a table with one of these names exists, if the disk failed or if memory ran out. Then nothing
@@ -71,12 +81,11 @@ pub fn make_tables<S: Alter>(tx: &mut Transaction<'_, S>) -> Result<usize, Error
     ensures does { DoesIn S.Store tx.old tx.new result MakesTables }
 {
     create_first(tx)?;
-    create_table(tx, Table::Member)?;
-    create_table(tx, Table::Audit)?;
+    create_last(tx)?;
     insert_version(tx)
 }
 
-/// Creates the five tables in a database without tables, indexes and views, and writes version 1 to
+/// Creates the six tables in a database without tables, indexes and views, and writes version 2 to
 /// `setting`, all in one transaction.
 ///
 /// Fails with the database's error, for instance if a table with one of these names exists, if the disk

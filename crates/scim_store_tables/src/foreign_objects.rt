@@ -1,4 +1,4 @@
-//! The first object of a schema that isn't one of version 1.
+//! The first object of a schema that isn't one of the tables or their indexes.
 
 ghost use Rattle.std.specs.Prelude.{◌≡◌, None, IfSome};
 ghost use Rattle.std.specs.Option.{option_copied};
@@ -9,7 +9,7 @@ use sqlite_schema::names::same_name;
 use sqlite_schema::schema::{Index, Schema, Table, View};
 use std::fmt;
 
-/// An object of a schema that isn't one of version 1, with its name.
+/// An object of a schema that isn't one of the six tables or their indexes, with its name.
 #[derive(Clone, Copy)]
 pub enum ForeignObject<'a> {
     /// A table.
@@ -45,7 +45,7 @@ fn is_name(name: &[u8], other: &str) -> bool
     same_name(name, other.as_bytes())
 }
 
-/// Whether a table has the name of a table of version 1.
+/// Whether a table has the name of one of the six tables.
 fn is_our_table(table: &Table) -> bool
     ensures { result ≡ spec.is_our_table table.now }
 {
@@ -55,9 +55,10 @@ fn is_our_table(table: &Table) -> bool
         || is_name(name, "taken")
         || is_name(name, "member")
         || is_name(name, "audit")
+        || is_name(name, "secret")
 }
 
-/// Whether an index has the name of an index of version 1.
+/// Whether an index has the name of an index of one of the six tables.
 fn is_our_index(index: &Index) -> bool
     ensures { result ≡ spec.is_our_index index.now }
 {
@@ -66,16 +67,17 @@ fn is_our_index(index: &Index) -> bool
         || is_name(name, "sqlite_autoindex_resource_1")
         || is_name(name, "sqlite_autoindex_taken_1")
         || is_name(name, "sqlite_autoindex_member_1")
+        || is_name(name, "sqlite_autoindex_secret_1")
 }
 
-/// Returns the first table that isn't one of version 1, by its name.
+/// Returns the first table that isn't one of the six, by its name.
 fn foreign_table(tables: &[Table]) -> Option<&Table>
     ensures { option_copied result ≡ spec.foreign_table tables.now }
 {
     tables.iter().find(|table| !is_our_table(table))
 }
 
-/// Returns the first index that isn't one of version 1, by its name.
+/// Returns the first index that isn't one of the six tables', by its name.
 fn foreign_index(indexes: &[Index]) -> Option<&Index>
     ensures { option_copied result ≡ spec.foreign_index indexes.now }
 {
@@ -94,11 +96,12 @@ fn of_view(view: &View) -> ForeignObject<'_>
     }
 }
 
-/// Returns the first table that isn't one of version 1; if there is none, the first such index; and if there is
-/// none either, the first view or unsupported object. Tables and indexes are compared by name, ignoring the
-/// case of ASCII letters.
+/// Returns the first table that isn't one of the six; if there is none, the first index that isn't one of
+/// theirs; and if there is none either, the first view or unsupported object. Tables and indexes are compared
+/// by name, ignoring the case of ASCII letters.
 ///
-/// `None` means that the schema has no other names than version 1. It may still be another schema.
+/// `None` means that the schema has no other names than the six tables and their indexes. It may still be a
+/// schema of no version.
 pub fn foreign_object(schema: &Schema) -> Option<ForeignObject<'_>>
     ensures none { result ≡ None → spec.HasOnlyOurs schema.now }
     ensures some { IfSome result (spec.IsForeignIn schema.now) }

@@ -1,9 +1,10 @@
-//! The names of the five tables, and the queries that read a whole table.
+//! The names of the six tables, and the queries that read a whole table.
 
 ghost use Rattle.scim_store_tables.specs.Queries as spec;
 ghost use Rattle.scim_store_tables.specs.Asks.{IsAsk};
+ghost use Rattle.scim_store_tables.specs.declared.versions.Version.{Version};
 
-/// One of the five tables.
+/// One of the six tables.
 #[derive(Clone, Copy)]
 pub enum Table {
     /// The settings of the file. There is only one: the version of the tables.
@@ -16,15 +17,19 @@ pub enum Table {
     Member,
     /// The audit.
     Audit,
+    /// The door codes of the users. Only version 2 has it.
+    Secret,
 }
 
-/// Returns the query for all rows of a table, sorted.
+/// Returns the query for all rows of a table, sorted. It has the same meaning in each version that has the
+/// table.
 ///
-/// Resources are sorted by id and kind, not by id alone, so that the database scans the table and sorts.
-/// Sorting by id alone would follow the index of the key and look up each row in the table. The rows aren't
-/// stored in order of id, so each look-up would read a page.
+/// Resources and door codes are sorted by two columns, not by id alone, so that the database scans the table
+/// and sorts. Sorting by id alone would follow the index of the key and look up each row in the table. The
+/// rows aren't stored in order of id, so each look-up would read a page.
 pub fn rows_query(table: Table) -> &'static str
-    ensures { IsAsk result.now (spec.rows_query table) }
+    ensures { (version : Version) → spec.HasTable version table
+        → IsAsk version result.now (spec.rows_query table) }
 {
     match table {
         Table::Setting => "SELECT name, number FROM setting",
@@ -34,12 +39,15 @@ pub fn rows_query(table: Table) -> &'static str
         Table::Audit => {
             "SELECT number, moment, client, op, kind, id, decided, rule, leaf, refusal FROM audit ORDER BY number"
         }
+        Table::Secret => "SELECT id, door_code FROM secret ORDER BY id, door_code",
     }
 }
 
-/// Returns the query for the keys of a table, sorted. A key is the rowid.
+/// Returns the query for the keys of a table, sorted. A key is the rowid. It has the same meaning in each
+/// version that has the table.
 pub(crate) fn keys_query(table: Table) -> &'static str
-    ensures { IsAsk result.now (spec.keys_query table) }
+    ensures { (version : Version) → spec.HasTable version table
+        → IsAsk version result.now (spec.keys_query table) }
 {
     match table {
         Table::Setting => "SELECT rowid FROM setting ORDER BY rowid",
@@ -47,5 +55,6 @@ pub(crate) fn keys_query(table: Table) -> &'static str
         Table::Taken => "SELECT rowid FROM taken ORDER BY rowid",
         Table::Member => "SELECT rowid FROM member ORDER BY rowid",
         Table::Audit => "SELECT rowid FROM audit ORDER BY rowid",
+        Table::Secret => "SELECT rowid FROM secret ORDER BY rowid",
     }
 }

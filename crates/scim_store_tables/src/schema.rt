@@ -1,8 +1,8 @@
-//! Tests whether a schema has exactly the five tables.
+//! Tests whether a schema has exactly the tables of a version.
 
 ghost use Rattle.std.specs.Prelude.{◌≡◌, ◌≢◌, ◌⊎◌, [], ◌∷◌, ◌++◌, false, true, IsTrue, None, Some, codes};
-ghost use Rattle.scim_store_tables.specs.Tables.{column, table, setting_table, resource_table, taken_table, member_table, audit_table, store_schema};
-ghost use Rattle.scim_store_tables.specs.code.Schema.{IsBare, index, setting_index, resource_index, taken_index, member_index, last_columns, middle_columns, audit_columns, store_indexes, store_tables};
+ghost use Rattle.scim_store_tables.specs.Tables.{column, table, setting_table, resource_table, taken_table, member_table, audit_table, secret_table, old_schema, store_schema};
+ghost use Rattle.scim_store_tables.specs.code.Schema.{IsBare, index, setting_index, resource_index, taken_index, member_index, secret_index, last_columns, middle_columns, audit_columns, old_indexes, old_tables, store_indexes, store_tables};
 ghost use Rattle.sqlite.specs.declared.types.Value.TheVariants.{Null};
 ghost use Rattle.sqlite_schema.specs.declared.schema.Kind.TheVariants as kind;
 
@@ -123,6 +123,20 @@ fn is_taken(it: &Table) -> bool
     }
 }
 
+fn is_secret(it: &Table) -> bool
+    ensures yes { IsTrue result → it.now ≡ record secret_table { tree = 9 } }
+    ensures no { result ≡ false → it.now ≢ record secret_table { tree = 9 } }
+{
+    match it.columns.as_slice() {
+        [id, code] => {
+            is_column(id, "id", Kind::Text, false)
+                && is_column(code, "door_code", Kind::Text, true)
+                && is_keyed(it, "secret", 9, &[1])
+        }
+        _ => false,
+    }
+}
+
 fn is_member(it: &Table) -> bool
     ensures yes { IsTrue result → it.now ≡ record member_table { tree = 6 } }
     ensures no { result ≡ false → it.now ≢ record member_table { tree = 6 } }
@@ -178,10 +192,17 @@ fn is_member_index(it: &Index) -> bool
     is_index(it, "sqlite_autoindex_member_1", 7, 6, &[1, 2])
 }
 
-/// Whether these are the indexes of the four tables with a primary key of texts, in order.
-fn are_indexes(all: &[Index]) -> bool
-    ensures yes { IsTrue result → all.now ≡ store_indexes }
-    ensures no { result ≡ false → all.now ≢ store_indexes }
+fn is_secret_index(it: &Index) -> bool
+    ensures yes { IsTrue result → it.now ≡ secret_index }
+    ensures no { result ≡ false → it.now ≢ secret_index }
+{
+    is_index(it, "sqlite_autoindex_secret_1", 10, 9, &[1])
+}
+
+/// Whether these are the indexes of version 1, in order.
+fn are_old_indexes(all: &[Index]) -> bool
+    ensures yes { IsTrue result → all.now ≡ old_indexes }
+    ensures no { result ≡ false → all.now ≢ old_indexes }
 {
     match all {
         [setting, resource, taken, member] => {
@@ -189,6 +210,23 @@ fn are_indexes(all: &[Index]) -> bool
                 && is_resource_index(resource)
                 && is_taken_index(taken)
                 && is_member_index(member)
+        }
+        _ => false,
+    }
+}
+
+/// Whether these are the indexes of version 2, in order.
+fn are_indexes(all: &[Index]) -> bool
+    ensures yes { IsTrue result → all.now ≡ store_indexes }
+    ensures no { result ≡ false → all.now ≢ store_indexes }
+{
+    match all {
+        [setting, resource, taken, member, secret] => {
+            is_setting_index(setting)
+                && is_resource_index(resource)
+                && is_taken_index(taken)
+                && is_member_index(member)
+                && is_secret_index(secret)
         }
         _ => false,
     }
@@ -266,9 +304,9 @@ fn is_audit(it: &Table) -> bool
 }
 
 /// Whether these are the five tables of version 1, in order.
-fn are_tables(all: &[Table]) -> bool
-    ensures yes { IsTrue result → all.now ≡ store_tables }
-    ensures no { result ≡ false → all.now ≢ store_tables }
+fn are_old_tables(all: &[Table]) -> bool
+    ensures yes { IsTrue result → all.now ≡ old_tables }
+    ensures no { result ≡ false → all.now ≢ old_tables }
 {
     match all {
         [setting, resource, taken, member, audit] => {
@@ -282,7 +320,39 @@ fn are_tables(all: &[Table]) -> bool
     }
 }
 
+/// Whether these are the six tables of version 2, in order.
+fn are_tables(all: &[Table]) -> bool
+    ensures yes { IsTrue result → all.now ≡ store_tables }
+    ensures no { result ≡ false → all.now ≢ store_tables }
+{
+    match all {
+        [setting, resource, taken, member, audit, secret] => {
+            is_setting(setting)
+                && is_resource(resource)
+                && is_taken(taken)
+                && is_member(member)
+                && is_audit(audit)
+                && is_secret(secret)
+        }
+        _ => false,
+    }
+}
+
 /// Whether a schema has exactly the five tables of version 1, in order, with the indexes of their keys.
+pub fn is_old_schema(schema: &Schema) -> bool
+    ensures yes { IsTrue result → schema.now ≡ old_schema }
+    ensures no { result ≡ false → schema.now ≢ old_schema }
+{
+    if !are_old_tables(schema.tables.as_slice()) {
+        return false;
+    }
+    if !are_old_indexes(schema.indexes.as_slice()) {
+        return false;
+    }
+    schema.views.is_empty()
+}
+
+/// Whether a schema has exactly the six tables of version 2, in order, with the indexes of their keys.
 pub fn is_store_schema(schema: &Schema) -> bool
     ensures yes { IsTrue result → schema.now ≡ store_schema }
     ensures no { result ≡ false → schema.now ≢ store_schema }

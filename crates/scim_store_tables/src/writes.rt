@@ -1,4 +1,4 @@
-//! The statements that write resources, unique names and members, each inside a transaction.
+//! The statements that write resources, unique names, members and door codes, each inside a transaction.
 //!
 //! Each function returns the number of rows written, as the database counts them. It fails with a constraint
 //! error if the key of a row to insert is in use, or with the database's error if the disk failed or memory
@@ -6,7 +6,7 @@
 //! it.
 
 ghost use Rattle.std.specs.Prelude.{◌≡◌, ◌∷◌, ◌++◌, length, filter, replicate};
-ghost use Rattle.scim_store_tables.specs.Lists.{Lists, Are, without, has_text, has_texts, resource_values, name_values, member_values};
+ghost use Rattle.scim_store_tables.specs.Lists.{Lists, Are, without, has_text, has_texts, resource_values, name_values, member_values, secret_values};
 ghost use Rattle.scim_store_tables.specs.Steps.{DoesIn, DoesBy};
 
 use sqlite::{Alter, Error, Transaction, params};
@@ -133,4 +133,30 @@ pub fn delete_member<S: Alter>(
         "DELETE FROM member WHERE value = ?1 AND group_id = ?2",
         params![value, group_id],
     )
+}
+
+/// Inserts the door code of a user. Fails with a constraint error if a row has this id, or with the
+/// database's error.
+pub fn insert_secret<S: Alter>(
+    tx: &mut Transaction<'_, S>,
+    id: &str,
+    door_code: &str,
+) -> Result<usize, Error>
+    ensures does { DoesIn S.Store tx.old tx.new result
+        (λ old new. (lists : Lists) → Are old lists
+        → Are new (record lists { secret = secret_values id.now door_code.now ∷ lists.secret })) }
+{
+    tx.execute(
+        "INSERT INTO secret (id, door_code) VALUES (?1, ?2)",
+        params![id, door_code],
+    )
+}
+
+/// Deletes the door code of the user with this id, if there is one. Fails with the database's error.
+pub fn delete_secret<S: Alter>(tx: &mut Transaction<'_, S>, id: &str) -> Result<usize, Error>
+    ensures does { DoesIn S.Store tx.old tx.new result
+        (λ old new. (lists : Lists) → Are old lists
+        → Are new (record lists { secret = without (has_text 0 id.now) lists.secret })) }
+{
+    tx.execute("DELETE FROM secret WHERE id = ?1", params![id])
 }

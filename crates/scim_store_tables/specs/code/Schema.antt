@@ -4,7 +4,7 @@ use Rattle.sqlite.specs.Table.{Table}
 use Rattle.sqlite_schema.specs.declared.schema.Column.{Column}
 use Rattle.sqlite.specs.Kind.TheVariants.{Integer, Text}
 use Rattle.sqlite_schema.specs.declared.schema.Index.{Index}
-use Rattle.scim_store_tables.specs.Tables.{column, setting_table, resource_table, taken_table, member_table, audit_table}
+use Rattle.scim_store_tables.specs.Tables.{column, setting_table, resource_table, taken_table, member_table, audit_table, secret_table}
 
 -- A table has no CHECK constraint, no foreign key, no computed default and no AUTOINCREMENT.
 pub record IsBare (table : Table) : Type 0 where
@@ -36,13 +36,25 @@ taken_index = index (codes "sqlite_autoindex_taken_1") 5 4 (1 ∷ 2 ∷ [])
 abbrev pub member_index : Index
 member_index = index (codes "sqlite_autoindex_member_1") 7 6 (1 ∷ 2 ∷ [])
 
--- All indexes of the schema, in order.
-abbrev pub store_indexes : List Index
-store_indexes = setting_index ∷ resource_index ∷ taken_index ∷ member_index ∷ []
+-- The index of `secret`.
+abbrev pub secret_index : Index
+secret_index = index (codes "sqlite_autoindex_secret_1") 10 9 (1 ∷ [])
 
--- All tables of the schema, in order, with their trees.
+-- All indexes of the schema of version 1, in order.
+abbrev pub old_indexes : List Index
+old_indexes = setting_index ∷ resource_index ∷ taken_index ∷ member_index ∷ []
+
+-- All indexes of the schema of version 2, in order.
+abbrev pub store_indexes : List Index
+store_indexes = setting_index ∷ resource_index ∷ taken_index ∷ member_index ∷ secret_index ∷ []
+
+-- All tables of the schema of version 1, in order, with their trees.
+abbrev pub old_tables : List Table
+old_tables = record setting_table { tree = 0 } ∷ record resource_table { tree = 2 } ∷ record taken_table { tree = 4 } ∷ record member_table { tree = 6 } ∷ record audit_table { tree = 8 } ∷ []
+
+-- All tables of the schema of version 2, in order, with their trees.
 abbrev pub store_tables : List Table
-store_tables = record setting_table { tree = 0 } ∷ record resource_table { tree = 2 } ∷ record taken_table { tree = 4 } ∷ record member_table { tree = 6 } ∷ record audit_table { tree = 8 } ∷ []
+store_tables = record setting_table { tree = 0 } ∷ record resource_table { tree = 2 } ∷ record taken_table { tree = 4 } ∷ record member_table { tree = 6 } ∷ record audit_table { tree = 8 } ∷ record secret_table { tree = 9 } ∷ []
 
 -- The last three columns of `audit`.
 abbrev pub last_columns : List Column

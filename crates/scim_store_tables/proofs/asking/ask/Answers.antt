@@ -13,8 +13,8 @@ returns g c =
     record {
       mode = c.query_all.ensures.mode;
       clean = c.query_all.ensures.survives.clean;
-      spares = λ q is. asks_spare sql params old new q is c.query_all.ensures.survives;
+      spares = λ v q is. asks_spare sql params old new q is c.query_all.ensures.survives;
       was_open = λ clean. on_ok c.query_all.result _ _ (λ rows shown. shown_open sql params old new rows.items shown) (c.query_all.ensures.ok clean);
-      read = λ clean. if_then c.query_all.result _ _ (λ rows shown q is has. answered sql q params old new rows.items is has shown) (c.query_all.ensures.ok clean);
+      read = λ clean. if_then c.query_all.result _ _ (λ rows shown v q is has. answered sql q params old new rows.items is has shown) (c.query_all.ensures.ok clean);
       rests = λ clean. on_err c.query_all.result _ _ (λ e fails. failed_rests sql params old new e fails) (c.query_all.ensures.err clean);
     }

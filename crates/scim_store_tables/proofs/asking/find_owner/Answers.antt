@@ -1,5 +1,6 @@
 use Rattle.std.proofs.Common.{option_map, string_bytes, subst}
 use Rattle.sqlite.specs.Held.{state}
+use Rattle.scim_store_tables.specs.declared.versions.Version.TheVariants.{Two}
 use Rattle.scim_store_tables.specs.Reading.{IsTextOfFirst}
 use Rattle.scim_store_tables.proofs.StepLemmas.{if_then, any_ok}
 use Rattle.scim_store_tables.proofs.ReadLemmas.{owner_found, owner_rests}
@@ -10,18 +11,18 @@ pub returns-clause-found : goal.returns-clause-found
 returns-clause-found g c clean =
     if_then c.first_text.result _ _ (λ found first lists holds.
     owner_found (state g.S.Store c.args.conn.now) (state g.S.Store c.ask.new.conn) c.in_ok-rows.rows.items (c.in_ok-rows.ensures.was_open clean) c.args.attribute.now c.args.folded.now (option_map string_bytes found)
-    (λ q is has. rw (c.params-to_sql.ensures, c.params-to_sql-2.ensures) at (c.in_ok-rows.ensures.read clean q is has)) (subst (λ xs. IsTextOfFirst 0 xs (option_map string_bytes found)) c.as_slice.ensures.value first) lists holds) c.first_text.ensures
+    (λ q is has. rw (c.params-to_sql.ensures, c.params-to_sql-2.ensures) at (c.in_ok-rows.ensures.read clean Two q is has)) (subst (λ xs. IsTextOfFirst 0 xs (option_map string_bytes found)) c.as_slice.ensures.value first) lists holds) c.first_text.ensures
 
 pub returns-clause-rests : goal.returns-clause-rests
 returns-clause-rests g c clean lists holds =
     owner_rests (state g.S.Store c.args.conn.now) (state g.S.Store c.ask.new.conn) c.in_ok-rows.rows.items (c.in_ok-rows.ensures.was_open clean) c.args.attribute.now c.args.folded.now
-    (λ q is has. rw (c.params-to_sql.ensures, c.params-to_sql-2.ensures) at (c.in_ok-rows.ensures.read clean q is has)) lists holds
+    (λ q is has. rw (c.params-to_sql.ensures, c.params-to_sql-2.ensures) at (c.in_ok-rows.ensures.read clean Two q is has)) lists holds
 
 pub returns-clause-spares : goal.returns-clause-spares
-returns-clause-spares g c = c.ask.ensures.spares owner asks_owner
+returns-clause-spares g c = c.ask.ensures.spares Two owner asks_owner
 
 pub returns-in_err-rows-clause-spares : goal.returns-in_err-rows-clause-spares
-returns-in_err-rows-clause-spares g c = c.ask.ensures.spares owner asks_owner
+returns-in_err-rows-clause-spares g c = c.ask.ensures.spares Two owner asks_owner
 
 pub returns-clause-unchanged : goal.returns-clause-unchanged
-returns-clause-unchanged g c clean has = any_ok c.first_text.result (c.in_ok-rows.ensures.read clean owner asks_owner (has (c.in_ok-rows.ensures.was_open clean))).unchanged
+returns-clause-unchanged g c clean has = any_ok c.first_text.result (c.in_ok-rows.ensures.read clean Two owner asks_owner (has (c.in_ok-rows.ensures.was_open clean))).unchanged

@@ -1,5 +1,6 @@
 use Rattle.std.proofs.Common.{option_map, string_bytes, subst}
 use Rattle.sqlite.specs.Held.{state}
+use Rattle.scim_store_tables.specs.declared.versions.Version.TheVariants.{Two}
 use Rattle.scim_store_tables.specs.Reading.{IsTextOfFirst}
 use Rattle.scim_store_tables.proofs.StepLemmas.{if_then, any_ok}
 use Rattle.scim_store_tables.proofs.ReadLemmas.{document_found, document_rests}
@@ -10,18 +11,18 @@ pub returns-clause-found : goal.returns-clause-found
 returns-clause-found g c clean =
     if_then c.first_text.result _ _ (λ found first lists holds.
     document_found (state g.S.Store c.args.conn.now) (state g.S.Store c.ask.new.conn) c.in_ok-rows.rows.items (c.in_ok-rows.ensures.was_open clean) c.args.id.now c.args.kind (option_map string_bytes found)
-    (λ q is has. rw (c.params-to_sql.ensures, c.params-to_sql-2.ensures) at (c.in_ok-rows.ensures.read clean q is has)) (subst (λ xs. IsTextOfFirst 0 xs (option_map string_bytes found)) c.as_slice.ensures.value first) lists holds) c.first_text.ensures
+    (λ q is has. rw (c.params-to_sql.ensures, c.params-to_sql-2.ensures) at (c.in_ok-rows.ensures.read clean Two q is has)) (subst (λ xs. IsTextOfFirst 0 xs (option_map string_bytes found)) c.as_slice.ensures.value first) lists holds) c.first_text.ensures
 
 pub returns-clause-rests : goal.returns-clause-rests
 returns-clause-rests g c clean lists holds =
     document_rests (state g.S.Store c.args.conn.now) (state g.S.Store c.ask.new.conn) c.in_ok-rows.rows.items (c.in_ok-rows.ensures.was_open clean) c.args.id.now c.args.kind
-    (λ q is has. rw (c.params-to_sql.ensures, c.params-to_sql-2.ensures) at (c.in_ok-rows.ensures.read clean q is has)) lists holds
+    (λ q is has. rw (c.params-to_sql.ensures, c.params-to_sql-2.ensures) at (c.in_ok-rows.ensures.read clean Two q is has)) lists holds
 
 pub returns-clause-spares : goal.returns-clause-spares
-returns-clause-spares g c = c.ask.ensures.spares document asks_document
+returns-clause-spares g c = c.ask.ensures.spares Two document asks_document
 
 pub returns-in_err-rows-clause-spares : goal.returns-in_err-rows-clause-spares
-returns-in_err-rows-clause-spares g c = c.ask.ensures.spares document asks_document
+returns-in_err-rows-clause-spares g c = c.ask.ensures.spares Two document asks_document
 
 pub returns-clause-unchanged : goal.returns-clause-unchanged
-returns-clause-unchanged g c clean has = any_ok c.first_text.result (c.in_ok-rows.ensures.read clean document asks_document (has (c.in_ok-rows.ensures.was_open clean))).unchanged
+returns-clause-unchanged g c clean has = any_ok c.first_text.result (c.in_ok-rows.ensures.read clean Two document asks_document (has (c.in_ok-rows.ensures.was_open clean))).unchanged

@@ -9,4 +9,4 @@ pub returns : goal.returns
 returns g c =
     let old = state g.S.Store c.args.conn.now in
     let new = state g.S.Store c.ask.new.conn in
-    asked_told (AreKeys c.args.table) c.keys_query.result.now (keys_query c.args.table) old new c.ask.result c.keys_query.ensures (table_keys_told c.args.table old new) c.ask.ensures
+    λ v has. asked_told v (AreKeys c.args.table) c.keys_query.result.now (keys_query c.args.table) old new c.ask.result (c.keys_query.ensures v has) (table_keys_told c.args.table old new) c.ask.ensures

@@ -9,4 +9,4 @@ pub returns : goal.returns
 returns g c =
     let old = state g.S.Store c.args.conn.now in
     let new = state g.S.Store c.ask.new.conn in
-    asked_told (AreRows c.args.table) c.rows_query.result.now (rows_query c.args.table) old new c.ask.result c.rows_query.ensures (rows_told c.args.table old new) c.ask.ensures
+    λ v has. asked_told v (AreRows c.args.table) c.rows_query.result.now (rows_query c.args.table) old new c.ask.result (c.rows_query.ensures v has) (rows_told c.args.table old new) c.ask.ensures

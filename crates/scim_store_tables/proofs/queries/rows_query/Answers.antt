@@ -1,17 +1,20 @@
-use Rattle.scim_store_tables.proofs.AskLemmas.{asks_settings, asks_all_resources, asks_names, asks_members, asks_audit}
+use Rattle.scim_store_tables.proofs.AskLemmas.{asks_settings, asks_all_resources, asks_names, asks_members, asks_audit, asks_secrets}
 use Rattle.scim_store_tables.proofs.queries.rows_query.Goals as goal
 
 pub returns-in-Setting : goal.returns-in-Setting
-returns-in-Setting c = rw c.in-Setting.is asks_settings
+returns-in-Setting c = rw c.in-Setting.is (λ v has. asks_settings v)
 
 pub returns-in-Resource : goal.returns-in-Resource
-returns-in-Resource c = rw c.in-Resource.is asks_all_resources
+returns-in-Resource c = rw c.in-Resource.is (λ v has. asks_all_resources v)
 
 pub returns-in-Taken : goal.returns-in-Taken
-returns-in-Taken c = rw c.in-Taken.is asks_names
+returns-in-Taken c = rw c.in-Taken.is (λ v has. asks_names v)
 
 pub returns-in-Member : goal.returns-in-Member
-returns-in-Member c = rw c.in-Member.is asks_members
+returns-in-Member c = rw c.in-Member.is (λ v has. asks_members v)
 
 pub returns-in-Audit : goal.returns-in-Audit
-returns-in-Audit c = rw c.in-Audit.is asks_audit
+returns-in-Audit c = rw c.in-Audit.is (λ v has. asks_audit v)
+
+pub returns-in-Secret : goal.returns-in-Secret
+returns-in-Secret c = rw c.in-Secret.is asks_secrets
