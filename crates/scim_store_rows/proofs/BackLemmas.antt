@@ -185,6 +185,9 @@ each_attribute attribute.Organization = refl
 each_attribute attribute.Division = refl
 each_attribute attribute.Department = refl
 each_attribute attribute.Manager = refl
+each_attribute attribute.Badge = refl
+each_attribute attribute.Note = refl
+each_attribute attribute.DoorCode = refl
 each_attribute attribute.Members = refl
 each_attribute attribute.Meta = refl
 
@@ -302,8 +305,15 @@ attribute_found attribute.Organization = refl
 attribute_found attribute.Division = refl
 attribute_found attribute.Department = refl
 attribute_found attribute.Manager = refl
+attribute_found attribute.Badge = refl
+attribute_found attribute.Note = refl
+attribute_found attribute.DoorCode = refl
 attribute_found attribute.Members = refl
 attribute_found attribute.Meta = refl
+
+-- no two attributes have one name
+pub name_one : (a b : Attribute) → attribute_name a ≡ attribute_name b → a ≡ b
+name_one a b same = one_named attribute_name all_attributes attribute_found a b same
 
 sub_attribute_found : (b : SubAttribute) → with_name sub_attribute_name all_sub_attributes (sub_attribute_name b) ≡ Some b
 unfolding all_sub_attributes
@@ -363,6 +373,9 @@ attribute_pointless attribute.Organization = refl
 attribute_pointless attribute.Division = refl
 attribute_pointless attribute.Department = refl
 attribute_pointless attribute.Manager = refl
+attribute_pointless attribute.Badge = refl
+attribute_pointless attribute.Note = refl
+attribute_pointless attribute.DoorCode = refl
 attribute_pointless attribute.Members = refl
 attribute_pointless attribute.Meta = refl
 
@@ -391,12 +404,12 @@ with_point : (a : Attribute) (s : SubAttribute) → path_of a (Some s) ≡ attri
 with_point a s = append_assoc (attribute_name a) (codes ".") (sub_attribute_name s)
 
 same_path : (a b : Attribute) (s t : Option SubAttribute) → path_of a s ≡ path_of b t → (a ≡ b) × (s ≡ t)
-same_path a b None None e = (one_named attribute_name all_attributes attribute_found a b e, refl)
+same_path a b None None e = (name_one a b e, refl)
 same_path a b None (Some t) e = absurd (never_split (attribute_name a) (attribute_name b) (sub_attribute_name t) (attribute_pointless a) (e ∙ with_point b t))
 same_path a b (Some s) None e = absurd (never_split (attribute_name b) (attribute_name a) (sub_attribute_name s) (attribute_pointless b) (sym e ∙ with_point a s))
 same_path a b (Some s) (Some t) e =
     let both = split_once (attribute_name a) (attribute_name b) (sub_attribute_name s) (sub_attribute_name t) (attribute_pointless a) (attribute_pointless b) (sym (with_point a s) ∙ e ∙ with_point b t) in
-    (one_named attribute_name all_attributes attribute_found a b both.0, ap (λ (x : SubAttribute). Some x) (one_named sub_attribute_name all_sub_attributes sub_attribute_found s t both.1))
+    (name_one a b both.0, ap (λ (x : SubAttribute). Some x) (one_named sub_attribute_name all_sub_attributes sub_attribute_found s t both.1))
 
 -- no two leaves have one path
 pub path_one : (x y : Leaf) → leaf_path x ≡ leaf_path y → x ≡ y

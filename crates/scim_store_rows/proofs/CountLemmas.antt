@@ -1,6 +1,6 @@
 -- The audit rows, counted while they are given.
-use Rattle.std.proofs.Common.{◌≡◌, ◌≢◌, ℕ, ◌+◌, ◌-◌, ◌<◌, ◌≤◌, suc, refl, sym, ◌∙◌, ap, subst, arith, List, [], ◌∷◌, ◌++◌, length, get_or}
-use Rattle.std.specs.Prelude.{All, Some, None, Ok}
+use Rattle.std.proofs.Common.{◌≡◌, ℕ, ◌+◌, ◌-◌, ◌<◌, refl, sym, ◌∙◌, ap, subst, arith, List, [], ◌∷◌, ◌++◌, length, get_or}
+use Rattle.std.specs.Prelude.{Some, None, Ok}
 use Rattle.std.proofs.lemmas.List.{length-append, append_assoc, get_or-append_right}
 use Rattle.std.proofs.lemmas.List.Elements.{All-nil, All-cons, All-append}
 use Rattle.sqlite_trees.specs.declared.store.Store as store
@@ -16,10 +16,10 @@ use Rattle.scim_audit.specs.declared.audit_rows.AuditRow.{AuditRow}
 use Rattle.scim_store_tables.specs.Asks.{asked, IsAsk}
 use Rattle.scim_store_tables.specs.Queries.{rows_query}
 use Rattle.scim_store_tables.specs.declared.queries.Table.TheVariants.{Audit}
-use Rattle.scim_store_tables.specs.Reading.{HasTables, shown}
+use Rattle.scim_store_tables.specs.declared.versions.Version.{Version}
+use Rattle.scim_store_tables.specs.Reading.{HasTablesIn, shown}
 use Rattle.scim_store_tables.specs.Whole.{AreInOrder}
 use Rattle.scim_store_tables.proofs.Facts.{answered, rows_told}
-use Rattle.scim_store_rows.specs.Audit.{audit_rows}
 use Rattle.scim_store_rows.specs.AuditBack.{IsSound}
 use Rattle.scim_store_rows.specs.Auditing.{IsAuditRow, CountsAudit, TellsCount}
 use Rattle.scim_store_rows.proofs.ReadLemmas.{length-audit_rows, append-audit_rows, none_read}
@@ -59,32 +59,32 @@ count_stops rows more k row counts none =
 -- valid audit rows were given, and are counted
 pub record Counts {S : Type 0} (g : store.Ghosts S) (first : State) (now : Held S) (count : ℕ) : Type 0 where
   pub text : List ℕ
-  pub asks : IsAsk text (rows_query Audit)
+  pub asks : (v : Version) → IsAsk v text (rows_query Audit)
   pub list : List Row
   pub sound : CountsAudit list (Some count)
-  pub given : HasTables first → HasCleanDisk (state g now) → HasGiven g text [] now list × IsUnchanged first (state g now)
+  pub given : (v : Version) → HasTablesIn v first → HasCleanDisk (state g now) → HasGiven g text [] now list × IsUnchanged first (state g now)
 
 -- the rows that are shown are those of the audit
-shown_audit : (text : List ℕ) (first mid new : State) (rows : List Row) → IsAsk text (rows_query Audit) → HasTables first → IsUnchanged first mid → Shown text [] mid new rows → AreInOrder (0 ∷ []) (shown first.now).audit rows
-shown_audit text first mid new rows asks has same shows =
+shown_audit : (v : Version) (text : List ℕ) (first mid new : State) (rows : List Row) → IsAsk v text (rows_query Audit) → HasTablesIn v first → IsUnchanged first mid → Shown text [] mid new rows → AreInOrder (0 ∷ []) (shown first.now).audit rows
+shown_audit v text first mid new rows asks has same shows =
     let now : mid.now ≡ first.now = same.0.now_is in
     let schema = ap (λ (d : Database). d.schema) now ∙ has same.0.was_open in
     subst (λ (d : Database). AreInOrder (0 ∷ []) (shown d).audit rows) now (rows_told Audit mid new rows (answered text (rows_query Audit) [] mid new rows asks schema shows)).1
 
 -- all rows were given
-pub all_counted : (text : List ℕ) (first mid new : State) (rows : List Row) (count : ℕ) → IsAsk text (rows_query Audit) → HasTables first → IsUnchanged first mid → IsUnchanged first new → Shown text [] mid new rows
+pub all_counted : (v : Version) (text : List ℕ) (first mid new : State) (rows : List Row) (count : ℕ) → IsAsk v text (rows_query Audit) → HasTablesIn v first → IsUnchanged first mid → IsUnchanged first new → Shown text [] mid new rows
     → CountsAudit rows (Some count) → TellsCount first new (Some count)
-all_counted text first mid new rows count asks has same_mid same shows counts = record {
+all_counted v text first mid new rows count asks has same_mid same shows counts = record {
   rows = rows;
-  are = shown_audit text first mid new rows asks has same_mid shows;
+  are = shown_audit v text first mid new rows asks has same_mid shows;
   counts = counts;
   unchanged = same;
 }
 
 -- a row was given that isn't the next of the audit
-pub stop_counted : (text : List ℕ) (first mid : State) (rows : List Row) (row : Row) (count : ℕ) → IsAsk text (rows_query Audit) → HasTables first → IsUnchanged first mid → Begins text [] mid (rows ++ row ∷ [])
+pub stop_counted : (v : Version) (text : List ℕ) (first mid : State) (rows : List Row) (row : Row) (count : ℕ) → IsAsk v text (rows_query Audit) → HasTablesIn v first → IsUnchanged first mid → Begins text [] mid (rows ++ row ∷ [])
     → CountsAudit rows (Some count) → ¬ IsAuditRow (count + 1) row → TellsCount first mid None
-stop_counted text first mid rows row count asks has same begins counts none =
+stop_counted v text first mid rows row count asks has same begins counts none =
     let schema = ap (λ (d : Database). d.schema) same.0.now_is ∙ has same.0.was_open in
     let whole = begins_shown text [] mid mid (rows ++ row ∷ []) begins (unchanged_itself first mid same)
     (λ c db it source.
@@ -94,7 +94,7 @@ stop_counted text first mid rows row count asks has same begins counts none =
     subst (λ k. EndsIn k db (timed [] c.formats it.now)) (sym command) tt)) in
     record {
       rows = (rows ++ row ∷ []) ++ whole.0;
-      are = shown_audit text first mid mid ((rows ++ row ∷ []) ++ whole.0) asks has same whole.1;
+      are = shown_audit v text first mid mid ((rows ++ row ∷ []) ++ whole.0) asks has same whole.1;
       counts = count_stops rows whole.0 count row counts none;
       unchanged = same;
     }

@@ -1,8 +1,10 @@
 pub mod TiedLemmas
 pub mod NameLemmas
 pub mod PlaceLemmas
-pub mod FindLemmas
+pub mod IdLemmas
 pub mod LookLemmas
+pub mod CodeLemmas
+pub mod FindLemmas
 pub mod OwnerLemmas
 pub mod GroupLemmas
 pub mod WalkLemmas

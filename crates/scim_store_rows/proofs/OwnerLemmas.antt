@@ -3,23 +3,17 @@ use Rattle.std.proofs.Common.{◌≡◌, ℕ, refl, sym, ◌∙◌, ap, subst, B
 use Rattle.std.specs.Prelude.{All, find, Option, None, Some, IfSome, IfOk, Result, Ok, Err, IsPermutation, IsTrue}
 use Rattle.std.specs.Option.{option_map}
 use Rattle.std.specs.List.{flat_map, list_any}
-use Rattle.std.specs.Ordering.{is_eq, nat_cmp}
-use Rattle.std.specs.Cmp.Lexicographic.{slice_cmp}
 use Rattle.std.specs.Str.{bytes_eq}
 use Rattle.std.proofs.lemmas.List.{nil_from_length}
 use Rattle.std.proofs.lemmas.List.Elements.{All-nil, All-cons, All-head, All-tail, All-append, All-map, All-weaker, filter-append}
 use Rattle.std.proofs.lemmas.List.Sorted.{All-permutation, length_permutation, IsPermutation-sym}
 use Rattle.std.proofs.lemmas.Map.Text.{is_eq-slice_cmp}
-use Rattle.std.proofs.lemmas.Slice.Eq.{bytes_eq-Decides}
 use Rattle.sqlite.specs.declared.types.Value.TheVariants.{Text}
 use Rattle.sqlite.specs.Order.{Row, column}
 use Rattle.sqlite.specs.State.{State}
 use Rattle.sqlite.proofs.Callers.{unchanged_then}
 use Rattle.scim_schema.specs.declared.Kind.{Kind}
-use Rattle.scim_schema.proofs.Facts.{is_same_leaf-Decides}
 use Rattle.scim_schema.specs.declared.Kind.TheVariants.{User, Group}
-use Rattle.scim_schema.specs.declared.Leaf.{Leaf}
-use Rattle.scim_schema.specs.declared.Attribute.TheVariants.{UserName}
 use Rattle.scim_schema.specs.Names.{attribute_name}
 use Rattle.scim_schema.specs.Units.{simple, is_same_leaf}
 use Rattle.scim_schema.specs.UniqueLeaves.{unique_leaves}
@@ -36,8 +30,7 @@ use Rattle.scim_store_tables.specs.Reading.{Holds, Finds, IsTextOfFirst}
 use Rattle.scim_store_rows.specs.Stands.{Entry, IsEntry, name_row, name_rows, lists_of}
 use Rattle.scim_store_rows.specs.Finding.{StandsIn, FindsById, FindsOwner}
 use Rattle.scim_store_rows.specs.code.Finding.{FindsOwnerId}
-use Rattle.scim_store_rows.proofs.TiedLemmas.{tied}
-use Rattle.scim_store_rows.proofs.NameLemmas.{user_names}
+use Rattle.scim_store_rows.proofs.NameLemmas.{is_unique_leaf, IsNameLeaf, name_leaves_of, simple_names, simple_leaf, leaf_texts}
 use Rattle.scim_store_rows.proofs.FindLemmas.{shut_holds, stands_still}
 
 -- whether a row is that of the name, whoever has it
@@ -47,26 +40,22 @@ is_of_name n = has_texts (attribute_name n.leaf.attribute) n.text
 abbrev pub contents : List Entry → List Content
 contents es = map (λ (e : Entry). e.content) es
 
--- the row of a name that stands at the one unique leaf passes just where it is the name
-one_row : (n : Name) (id : List ℕ) (m : Name) → n.leaf ≡ simple UserName → m.leaf ≡ simple UserName → is_of_name n (name_row id m) ≡ is_same_name n m
-one_row n id m one two =
-    let leaf : m.leaf ≡ n.leaf = two ∙ sym one in
-    let attribute : is_eq (slice_cmp nat_cmp (attribute_name m.leaf.attribute) (attribute_name n.leaf.attribute)) ≡ true =
-    ap (λ (l : Leaf). is_eq (slice_cmp nat_cmp (attribute_name l.attribute) (attribute_name n.leaf.attribute))) leaf ∙ tied (attribute_name n.leaf.attribute) in
-    (λ i. attribute i && is_eq-slice_cmp m.text n.text i) ∙
-    by_bool (bytes_eq m.text n.text)
-    (λ t.
-    (let text : m.text ≡ n.text = (bytes_eq-Decides m.text n.text).0 t in
-    t ∙ sym ((is_same_name-Decides n m).1 (λ i. record { leaf = sym leaf i; text = sym text i }))))
-    (λ f. f ∙ by_bool (is_same_name n m)
-    (λ t. (let same : n ≡ m = (is_same_name-Decides n m).0 t in let c : false ≡ true = sym f ∙ (bytes_eq-Decides m.text n.text).1 (ap (λ (x : Name). x.text) (sym same)) in absurd cc))
-    (λ g. sym g))
+-- the row of a name passes just where it is the name
+one_row : (n : Name) (id : List ℕ) (m : Name) → n.leaf ≡ simple n.leaf.attribute → m.leaf ≡ simple m.leaf.attribute → is_of_name n (name_row id m) ≡ is_same_name n m
+one_row n id m one two = (λ i. leaf_texts m.leaf n.leaf two one i && is_eq-slice_cmp m.text n.text i) ∙ turned (is_same_leaf m.leaf n.leaf && bytes_eq m.text n.text) refl
+  where
+    turned : (b : Bool) → (is_same_leaf m.leaf n.leaf && bytes_eq m.text n.text) ≡ b → b ≡ is_same_name n m
+    turned true t = (let same : m ≡ n = (is_same_name-Decides m n).0 t in sym ((is_same_name-Decides n m).1 (sym same)))
+    turned false f =
+        by_bool (is_same_name n m)
+        (λ t. (let same : n ≡ m = (is_same_name-Decides n m).0 t in let c : false ≡ true = sym f ∙ (is_same_name-Decides m n).1 (sym same) in absurd cc))
+        (λ g. sym g)
 
-each_row : (n : Name) (id : List ℕ) (ms : List Name) → n.leaf ≡ simple UserName → All (λ (m : Name). m.leaf ≡ simple UserName) ms → list_any (is_of_name n) (map (name_row id) ms) ≡ list_any (is_same_name n) ms
+each_row : (n : Name) (id : List ℕ) (ms : List Name) → n.leaf ≡ simple n.leaf.attribute → All (λ (m : Name). m.leaf ≡ simple m.leaf.attribute) ms → list_any (is_of_name n) (map (name_row id) ms) ≡ list_any (is_same_name n) ms
 each_row n id [] is are = refl
 each_row n id (m ∷ ms) is are =
-    let here : is_of_name n (name_row id m) ≡ is_same_name n m = one_row n id m is (All-head (λ (x : Name). x.leaf ≡ simple UserName) m ms are) in
-    let rest = each_row n id ms is (All-tail (λ (x : Name). x.leaf ≡ simple UserName) m ms are) in
+    let here : is_of_name n (name_row id m) ≡ is_same_name n m = one_row n id m is (All-head (λ (x : Name). x.leaf ≡ simple x.leaf.attribute) m ms are) in
+    let rest = each_row n id ms is (All-tail (λ (x : Name). x.leaf ≡ simple x.leaf.attribute) m ms are) in
     (λ i. here i || rest i)
 
 pub none_left : {X : Type 0} (p : X → Bool) (xs : List X) → list_any p xs ≡ false → filter p xs ≡ []
@@ -108,7 +97,7 @@ own_rows n e (m ∷ ms) = go (is_of_name n (name_row e.content.id m)) (own_rows 
     go true rest = All-cons P (name_row e.content.id m) _ refl rest
     go false rest = rest
 
-rows_show : (n : Name) (es : List Entry) → n.leaf ≡ simple UserName → AreKeyed (contents es) → All (ShowsFound n (contents es)) (filter (is_of_name n) (flat_map name_rows es))
+rows_show : (n : Name) (es : List Entry) → n.leaf ≡ simple n.leaf.attribute → AreKeyed (contents es) → All (ShowsFound n (contents es)) (filter (is_of_name n) (flat_map name_rows es))
 rows_show n [] is keyed = All-nil _
 rows_show n (e ∷ es) is keyed =
     (let rest = rows_show n es is (keyed_tail e.content _ keyed) in
@@ -119,7 +108,7 @@ rows_show n (e ∷ es) is keyed =
     (All-weaker (λ row. column row 2 ≡ Text (id_text e.content.id)) (ShowsFound n (contents (e ∷ es))) (λ row h. (e.content, rw t refl, h)) _ (own_rows n e (unique_names e.content)))
     (All-weaker (ShowsFound n (contents es)) (ShowsFound n (contents (e ∷ es))) (λ row s. absurd (both t s.0 s.1)) _ rest))
     (λ f.
-    (let none : filter (is_of_name n) (name_rows e) ≡ [] = none_left (is_of_name n) (name_rows e) (each_row n e.content.id (unique_names e.content) is (user_names e.content) ∙ f) in
+    (let none : filter (is_of_name n) (name_rows e) ≡ [] = none_left (is_of_name n) (name_rows e) (each_row n e.content.id (unique_names e.content) is (simple_names e.content) ∙ f) in
     rw none (All-weaker (ShowsFound n (contents es)) (ShowsFound n (contents (e ∷ es))) (λ row s. (s.0, rw f s.1, s.2)) _ rest)))))
   where
     both : has_name n e.content ≡ true → (c : Content) → find (has_name n) (contents es) ≡ Some c → ⊥
@@ -128,11 +117,11 @@ rows_show n (e ∷ es) is keyed =
         let at_c : has_name n c ≡ false = subst (λ (o : Option Content). has_in n o ≡ false) at no in
         let c : true ≡ false = sym (found_passes (has_name n) (contents es) c at) ∙ at_c in cc
 
-none_has : (n : Name) (es : List Entry) → n.leaf ≡ simple UserName → filter (is_of_name n) (flat_map name_rows es) ≡ [] → find (has_name n) (contents es) ≡ None
+none_has : (n : Name) (es : List Entry) → n.leaf ≡ simple n.leaf.attribute → filter (is_of_name n) (flat_map name_rows es) ≡ [] → find (has_name n) (contents es) ≡ None
 none_has n [] is none = refl
 none_has n (e ∷ es) is none =
     let parts : filter (is_of_name n) (name_rows e) ++ filter (is_of_name n) (flat_map name_rows es) ≡ [] = sym (filter-append (is_of_name n) (name_rows e) (flat_map name_rows es)) ∙ none in
-    let here : has_name n e.content ≡ false = sym (each_row n e.content.id (unique_names e.content) is (user_names e.content)) ∙ some_left (is_of_name n) (name_rows e) (left _ _ parts) in
+    let here : has_name n e.content ≡ false = sym (each_row n e.content.id (unique_names e.content) is (simple_names e.content)) ∙ some_left (is_of_name n) (name_rows e) (left _ _ parts) in
     rw here (none_has n es is (right _ _ parts))
   where
     left : (xs ys : List Row) → xs ++ ys ≡ [] → xs ≡ []
@@ -143,30 +132,19 @@ none_has n (e ∷ es) is none =
     right [] ys h = h
     right (x ∷ xs) ys h = absurd cc
 
-unique_is : (l : Leaf) → list_any (λ m. is_same_leaf m l) (unique_leaves User) ≡ is_same_leaf (simple UserName) l
-unfolding unique_leaves
-unique_is l = or_false (is_same_leaf (simple UserName) l)
-  where
-    or_false : (b : Bool) → (b || false) ≡ b
-    or_false true = refl
-    or_false false = refl
-
-is_simple : (l : Leaf) → list_any (λ m. is_same_leaf m l) (unique_leaves User) ≡ true → l ≡ simple UserName
-is_simple l t = sym ((is_same_leaf-Decides (simple UserName) l).0 (sym (unique_is l) ∙ t))
-
 -- no resource has a name that stands at a leaf that isn't unique
-no_owner : (n : Name) (cs : List Content) → list_any (λ l. is_same_leaf l n.leaf) (unique_leaves User) ≡ false → find (has_name n) cs ≡ None
+no_owner : (n : Name) (cs : List Content) → is_unique_leaf n.leaf ≡ false → find (has_name n) cs ≡ None
 no_owner n [] out = refl
-no_owner n (c ∷ cs) out = rw (none (unique_names c) (user_names c)) (no_owner n cs out)
+no_owner n (c ∷ cs) out = rw (none (unique_names c) (name_leaves_of c)) (no_owner n cs out)
   where
-    none : (ms : List Name) → All (λ (m : Name). m.leaf ≡ simple UserName) ms → list_any (is_same_name n) ms ≡ false
+    none : (ms : List Name) → All (λ (m : Name). IsNameLeaf m.leaf) ms → list_any (is_same_name n) ms ≡ false
     none [] are = refl
     none (m ∷ ms) are =
         by_bool (is_same_name n m)
         (λ t.
-        (let leaf : n.leaf ≡ simple UserName = ap (λ (x : Name). x.leaf) ((is_same_name-Decides n m).0 t) ∙ All-head (λ (x : Name). x.leaf ≡ simple UserName) m ms are in
-        let c : true ≡ false = sym ((is_same_leaf-Decides (simple UserName) n.leaf).1 (sym leaf)) ∙ sym (unique_is n.leaf) ∙ out in absurd cc))
-        (λ f. rw f (none ms (All-tail (λ (x : Name). x.leaf ≡ simple UserName) m ms are)))
+        (let leaf : n.leaf ≡ m.leaf = ap (λ (x : Name). x.leaf) ((is_same_name-Decides n m).0 t) in
+        let c : true ≡ false = sym (All-head (λ (x : Name). IsNameLeaf x.leaf) m ms are).1 ∙ ap is_unique_leaf (sym leaf) ∙ out in absurd cc))
+        (λ f. rw f (none ms (All-tail (λ (x : Name). IsNameLeaf x.leaf) m ms are)))
 
 pub found_all : (P : Content → Type 0) (p : Content → Bool) (cs : List Content) (c : Content) → All P cs → find p cs ≡ Some c → P c
 found_all P p [] c all is = absurd cc
@@ -177,10 +155,10 @@ found_all P p (d ∷ ds) c all is = go (p d) is (found_all P p ds c (All-tail P 
     go false h rest = rest h
 
 pub sound_ids : (base : List ℕ) (es : List Entry) → All (IsEntry base) es → All (λ (c : Content). IsId c.id) (contents es)
-sound_ids base es sound = All-map (λ (c : Content). IsId c.id) (λ (e : Entry). e.content) es (All-weaker (IsEntry base) (λ e. IsId e.content.id) (λ e s. s.document.0.0.identified.0) es sound)
+sound_ids base es sound = All-map (λ (c : Content). IsId c.id) (λ (e : Entry). e.content) es (All-weaker (IsEntry base) (λ e. IsId e.content.id) (λ e s. s.document.below.0.identified.0) es sound)
 
 -- the text that is found for a name at a unique leaf is that of its owner's id
-owner_id : (base : List ℕ) (es : List Entry) (n : Name) (ordered : List Row) (text : Option (List ℕ)) (id : Option (List ℕ)) → AreKeyed (contents es) → All (IsEntry base) es → n.leaf ≡ simple UserName
+owner_id : (base : List ℕ) (es : List Entry) (n : Name) (ordered : List Row) (text : Option (List ℕ)) (id : Option (List ℕ)) → AreKeyed (contents es) → All (IsEntry base) es → n.leaf ≡ simple n.leaf.attribute
     → IsPermutation (filter (is_of_name n) (flat_map name_rows es)) ordered → IsTextOfFirst 2 ordered text → IfSome id IsId → option_map id_text id ≡ text → id ≡ option_map (λ c. c.id) (find (has_name n) (contents es))
 owner_id base es n [] text id keyed sound is same first is_id read =
     let none : find (has_name n) (contents es) ≡ None = none_has n es is (nil_from_length _ (length_permutation [] _ (IsPermutation-sym _ _ same))) in
@@ -202,7 +180,7 @@ owner_id base es n (row ∷ more) text id keyed sound is same first is_id read =
     the_id (Some x) h e c one here = ap (λ y. Some y) (id_text-injective x c.id h one ((let t : id_text x ≡ first.0 = cc in t) ∙ here))
 
 pub finds_owner_id : (base : List ℕ) (n : Name) (old new : State) (text id : Option (List ℕ)) → ((lists : Lists) → Holds old lists → Finds 2 (filter (has_texts (attribute_name n.leaf.attribute) n.text) lists.taken) old new text) → IfSome id IsId
-    → (list_any (λ l. is_same_leaf l n.leaf) (unique_leaves User) ≡ true → option_map id_text id ≡ text) → (list_any (λ l. is_same_leaf l n.leaf) (unique_leaves User) ≡ false → id ≡ None)
+    → (is_unique_leaf n.leaf ≡ true → option_map id_text id ≡ text) → (is_unique_leaf n.leaf ≡ false → id ≡ None)
     → (store : Store) → StandsIn base old store → FindsOwnerId n store old new id
 finds_owner_id base n old new text id finds is_id unique other store stands =
     by_bool old.is_open
@@ -211,8 +189,8 @@ finds_owner_id base n old new text id finds is_id unique other store stands =
     let it = finds (lists_of s.entries store.audit) (λ _. s.tables) in
     record {
       is =
-          by_bool (list_any (λ l. is_same_leaf l n.leaf) (unique_leaves User))
-          (λ yes'. owner_id base s.entries n it.ordered text id (subst AreKeyed (sym s.resources) s.keyed) s.sound (is_simple n.leaf yes') it.same it.first is_id (unique yes') ∙ ap (λ cs. option_map (λ (c : Content). c.id) (find (has_name n) cs)) s.resources)
+          by_bool (is_unique_leaf n.leaf)
+          (λ yes'. owner_id base s.entries n it.ordered text id (subst AreKeyed (sym s.resources) s.keyed) s.sound (simple_leaf n.leaf yes') it.same it.first is_id (unique yes') ∙ ap (λ cs. option_map (λ (c : Content). c.id) (find (has_name n) cs)) s.resources)
           (λ no'. other no' ∙ sym (ap (option_map (λ (c : Content). c.id)) (no_owner n store.resources no')));
       unchanged = it.unchanged;
     }))

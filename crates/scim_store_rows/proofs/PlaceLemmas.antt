@@ -1,5 +1,5 @@
 -- The resource of an id among those of a store.
-use Rattle.std.proofs.Common.{◌≡◌, ◌≢◌, refl, sym, ◌∙◌, ap, subst, ℕ, Bool, true, false, cond, List, [], ◌∷◌, ◌++◌, map, filter}
+use Rattle.std.proofs.Common.{◌≡◌, ◌≢◌, refl, sym, ◌∙◌, ap, subst, ℕ, Bool, true, false, cond, List, [], ◌∷◌, ◌++◌, map, filter, get_or}
 use Rattle.std.specs.Prelude.{All, Option, None, Some, IsPermutation}
 use Rattle.std.specs.Option.{option_map, option_to_list}
 use Rattle.std.specs.Ordering.{nat_cmp, is_eq, is_lt, is_gt}
@@ -132,6 +132,23 @@ own_apart id o (e ∷ es) keyed only = go (own_apart id o es (keyed_tail e.conte
         (let behind : filter (own id) es ≡ o ∷ [] = rw f at only in
         let here : All (λ (d : Entry). AreApart e.content d.content) (o ∷ []) = subst (All (λ (d : Entry). AreApart e.content d.content)) behind (All-filter (own id) (λ (d : Entry). AreApart e.content d.content) es apart) in
         All-cons P e es (λ _. apart_back e.content o.content (All-head (λ (d : Entry). AreApart e.content d.content) o [] here)) (rest behind)))
+
+-- each is the one of its id
+pub own_each : (es : List Entry) → AreKeyed (map (λ (x : Entry). x.content) es) → All (λ (e : Entry). filter (own e.content.id) es ≡ e ∷ []) es
+own_each [] keyed = All-nil _
+own_each (x ∷ xs) keyed = All-cons (λ (e : Entry). filter (own e.content.id) (x ∷ xs) ≡ e ∷ []) x xs first (others_own (own_each xs (keyed_tail x.content _ keyed)))
+  where
+    itself : own x.content.id x ≡ true
+    itself = ap is_eq (tied_itself nat_list_cmp_total x.content.id)
+
+    first : filter (own x.content.id) (x ∷ xs) ≡ x ∷ []
+    first = rw itself (ap (λ (l : List Entry). x ∷ l) (own_none x.content.id x xs itself (keyed_apart x.content _ keyed)))
+
+    apart : All (λ (d : Entry). AreApart x.content d.content) xs
+    apart = contents_all (AreApart x.content) xs (keyed_apart x.content _ keyed)
+
+    others_own : All (λ (e : Entry). filter (own e.content.id) xs ≡ e ∷ []) xs → All (λ (e : Entry). filter (own e.content.id) (x ∷ xs) ≡ e ∷ []) xs
+    others_own rest = λ k d l. (let e = get_or xs k d in by_bool (own e.content.id x) (λ t. absurd ((apart k d l).ids (own_id e.content.id x t))) (λ f. rw f (rest k d l)))
 
 lower_other : (o : Ordering) → is_lt o ≡ true → is_eq o ≡ false
 lower_other Less h = refl

@@ -1,11 +1,10 @@
 -- The results of reads of resources.
-use Rattle.std.specs.Prelude.{◌≡◌, ℕ, List, Option, None, Some, IsTrue, find, filter}
+use Rattle.std.specs.Prelude.{◌≡◌, ℕ, List, Option, IsTrue, find, filter}
 use Rattle.std.specs.List.{FoldsTo}
 use Rattle.sqlite.specs.State.{State, IsUnchanged}
 use Rattle.scim_schema.specs.declared.Kind.{Kind}
 use Rattle.scim_cell.specs.Content.{Content}
 use Rattle.scim_cell.specs.Kinds.{of_kind}
-use Rattle.scim_json.specs.Stored.{IsDocumentText}
 use Rattle.scim_value.specs.Uniqueness.{Name}
 use Rattle.scim_shelf.specs.Stores.{Store, is_at, has_name, is_group_with, of_id}
 use Rattle.scim_store_rows.specs.Stands.{StandsFor}
@@ -13,12 +12,6 @@ use Rattle.scim_store_rows.specs.Stands.{StandsFor}
 -- If the connection is open, its tables hold the store.
 abbrev pub StandsIn : List ℕ → State → Store → Type 0
 StandsIn base s store = IsTrue s.is_open → StandsFor base s.now store
-
--- Either `text` is a valid document of the resource, or there is neither a document nor a resource.
-abbrev pub Reads : List ℕ → Option (List ℕ) → Option Content → Type 0
-Reads base None None = Unit {0}
-Reads base (Some text) (Some c) = IsDocumentText base text c
-Reads base _ _ = ⊥
 
 -- The result is `has`, and nothing is changed.
 pub record IsFound {T : Type 0} (has : T) (old new : State) (found : T) : Type 0 where

@@ -2,7 +2,8 @@
 ghost use Rattle.std.specs.Prelude.{◌≡◌, ◌≢◌, false, true, IfOk, OnErr};
 ghost use Rattle.sqlite.specs.State.{HasCleanDisk};
 ghost use Rattle.sqlite.specs.Held.{state};
-ghost use Rattle.scim_store_tables.specs.Reading.{Rests, Spares, HasTables};
+ghost use Rattle.scim_store_tables.specs.declared.versions.Version.{Version};
+ghost use Rattle.scim_store_tables.specs.Reading.{Rests, SparesIn, HasTablesIn};
 ghost use Rattle.scim_store_rows.specs.Auditing.{IsAuditRow, TellsCount};
 
 use crate::audit_records::read_audit_row;
@@ -26,16 +27,19 @@ fn is_audit_row(alloc: Global, number: u64, row: &Row) -> Result<bool, Error>
 
 /// Returns the number of audit rows; `None` unless all of them are valid and numbered consecutively from 1.
 /// Reads one row at a time and keeps none of them, in time linear in their number. The database must have
-/// exactly the five tables.
+/// exactly the tables of a version.
 ///
 /// Fails with the database's error, or with `OutOfMemory` if memory runs out. Then the connection is closed,
 /// or its database is unchanged or as the last commit left it.
 pub fn count_audit<S: Alter>(conn: &mut Connection<S>, alloc: Global) -> Result<Option<u64>, Error>
     ensures mode { conn.old.in_transaction ≡ false → conn.new.in_transaction ≡ false }
-    ensures spares { Spares (state S.Store conn.old) (state S.Store conn.new) }
-    ensures counted { HasCleanDisk (state S.Store conn.new) → HasTables (state S.Store conn.old)
+    ensures spares { (version : Version)
+        → SparesIn version (state S.Store conn.old) (state S.Store conn.new) }
+    ensures counted { HasCleanDisk (state S.Store conn.new)
+        → (version : Version) → HasTablesIn version (state S.Store conn.old)
         → IfOk result (TellsCount (state S.Store conn.old) (state S.Store conn.new)) }
-    ensures rests { HasCleanDisk (state S.Store conn.new) → HasTables (state S.Store conn.old)
+    ensures rests { HasCleanDisk (state S.Store conn.new)
+        → (version : Version) → HasTablesIn version (state S.Store conn.old)
         → OnErr result (Rests (state S.Store conn.old) (state S.Store conn.new)) }
 {
     let mut rows = conn.query(rows_query(Table::Audit), &[])?;

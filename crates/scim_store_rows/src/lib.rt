@@ -9,6 +9,7 @@ mod audit_fields;
 mod audit_numbers;
 mod audit_reading;
 mod audit_records;
+mod door_codes;
 mod leaf_paths;
 mod look_ups;
 mod old_resources;

@@ -11,12 +11,14 @@ ghost use Rattle.scim_schema.specs.Units.{is_same_leaf};
 ghost use Rattle.scim_schema.specs.UniqueLeaves.{unique_leaves};
 ghost use Rattle.scim_cell.specs.Ids.{IsId, id_text};
 ghost use Rattle.scim_value.specs.Uniqueness.{name_of};
-ghost use Rattle.scim_store_rows.specs.Finding.{StandsIn, Reads, FindsById, FindsOwner, FindsGroups};
+ghost use Rattle.scim_json.specs.Kept.{IsKept};
+ghost use Rattle.scim_store_rows.specs.Finding.{StandsIn, FindsById, FindsOwner, FindsGroups};
 ghost use Rattle.scim_store_rows.specs.code.Finding.{FindsOwnerId, AreGroups};
 
 use crate::audit_columns::kind_number;
+use crate::door_codes::find_code;
 use scim_cell::Id;
-use scim_json::read_stored;
+use scim_json::read_kept;
 use scim_schema::{Kind, Leaf, unique_leaves};
 use scim_store_tables::{find_owner, find_resource, read_groups};
 use scim_text::Failed;
@@ -24,20 +26,28 @@ use scim_value::{Resource, UniqueName};
 use sqlite::{Alter, Connection, Error, ErrorCode, Row};
 use std::alloc::Global;
 
-/// Reads a resource from its document; `None` if there is no document. Fails with `DatabaseCorrupt` if the
-/// document isn't valid, and with `OutOfMemory` if memory runs out.
-pub(crate) fn read_document(
+/// Returns the text of a string, if there is one.
+pub(crate) fn text_of(string: Option<&String>) -> Option<&str>
+    ensures { option_map (λ t. t.now) result ≡ option_map (λ s. string_bytes s.now) string.entry }
+{
+    match string {
+        Some(string) => Some(string.as_str()),
+        None => None,
+    }
+}
+
+/// Reads a resource from its document and its door code, if any. Fails with `DatabaseCorrupt` if these aren't
+/// the kept parts of a resource, and with `OutOfMemory` if memory runs out.
+pub(crate) fn read_parts(
     alloc: Global,
     base: &str,
-    document: Option<String>,
-) -> Result<Option<Resource>, Error>
-    ensures { IfOk result (λ found. Reads base.now (option_map string_bytes document) found) }
+    document: &str,
+    code: Option<&str>,
+) -> Result<Resource, Error>
+    ensures { IfOk result (IsKept base.now document.now (option_map (λ c. c.now) code.entry)) }
 {
-    let Some(document) = document else {
-        return Ok(None);
-    };
-    match read_stored(alloc, base, document.as_str()) {
-        Ok(resource) => Ok(Some(resource)),
+    match read_kept(alloc, base, document, code) {
+        Ok(resource) => Ok(resource),
         Err(Failed::Because(_)) => Err(Error::SqliteFailure(ErrorCode::DatabaseCorrupt)),
         Err(Failed::NoMemory) => Err(Error::SqliteFailure(ErrorCode::OutOfMemory)),
     }
@@ -47,7 +57,7 @@ pub(crate) fn read_document(
 /// location is below the base URI.
 ///
 /// Fails with the database's error, with `OutOfMemory` if memory runs out, or with `DatabaseCorrupt` if the
-/// document isn't valid. Then the connection is closed, or its database is unchanged or as the last commit
+/// document or the door code isn't valid. Then the connection is closed, or its database is unchanged or as the last commit
 /// left it.
 pub fn find_by_id<S: Alter>(
     conn: &mut Connection<S>,
@@ -68,8 +78,13 @@ pub fn find_by_id<S: Alter>(
         → Rests (state S.Store conn.old) (state S.Store conn.new) }
 {
     let mut buffer = [0; Id::TEXT_LENGTH];
-    let document = find_resource(conn, id.write(&mut buffer), kind_number(kind))?;
-    read_document(alloc, base, document)
+    let id = id.write(&mut buffer);
+    let Some(document) = find_resource(conn, id, kind_number(kind))? else {
+        return Ok(None);
+    };
+    let code = find_code(conn, kind, id)?;
+    let resource = read_parts(alloc, base, document.as_str(), text_of(code.as_ref()))?;
+    Ok(Some(resource))
 }
 
 /// Reads an id from a text in the tables. Fails with `DatabaseCorrupt` if the text isn't an id.

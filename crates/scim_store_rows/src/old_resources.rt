@@ -1,16 +1,16 @@
 //! Reads the resource that a change replaces or removes.
 
-ghost use Rattle.std.specs.Prelude.{◌≡◌, false, filter, option_map, string_bytes, IfOk};
-ghost use Rattle.sqlite.specs.State.{HasCleanDisk};
+ghost use Rattle.std.specs.Prelude.{◌≡◌, false, filter, option_map, string_bytes, IfOk, OnOk};
+ghost use Rattle.sqlite.specs.State.{HasCleanDisk, IsUnchanged};
 ghost use Rattle.sqlite.specs.Held.{state};
 ghost use Rattle.scim_shelf.specs.Stores.{Store};
 ghost use Rattle.scim_store_tables.specs.Lists.{Lists, has_text};
-ghost use Rattle.scim_store_tables.specs.Reading.{Rests, Spares, Holds, Finds};
+ghost use Rattle.scim_store_tables.specs.Reading.{Rests, Spares, HasTables, Holds, Finds};
 ghost use Rattle.scim_store_rows.specs.Finding.{StandsIn, FindsOld};
 
-use crate::look_ups::read_document;
+use crate::look_ups::{read_parts, text_of};
 use scim_cell::Id;
-use scim_store_tables::{ask, first_text};
+use scim_store_tables::{ask, find_secret, first_text};
 use scim_value::Resource;
 use sqlite::{Alter, Connection, Error, params};
 use std::alloc::Global;
@@ -19,6 +19,8 @@ use std::alloc::Global;
 fn find_document<S: Alter>(conn: &mut Connection<S>, id: &str) -> Result<Option<String>, Error>
     ensures mode { conn.old.in_transaction ≡ false → conn.new.in_transaction ≡ false }
     ensures spares { Spares (state S.Store conn.old) (state S.Store conn.new) }
+    ensures unchanged { HasCleanDisk (state S.Store conn.new) → HasTables (state S.Store conn.old)
+        → OnOk result (IsUnchanged (state S.Store conn.old) (state S.Store conn.new)) }
     ensures found { HasCleanDisk (state S.Store conn.new)
         → IfOk result (λ found. (lists : Lists) → Holds (state S.Store conn.old) lists
         → Finds 2 (filter (has_text 0 id.now) lists.resources) (state S.Store conn.old)
@@ -38,7 +40,7 @@ fn find_document<S: Alter>(conn: &mut Connection<S>, id: &str) -> Result<Option<
 /// Returns the user or group with the id; `None` if there isn't one. Its location is below the base URI.
 ///
 /// Fails with the database's error, with `OutOfMemory` if memory runs out, or with `DatabaseCorrupt` if the
-/// document isn't valid. Then the connection is closed, or its database is unchanged or as the last commit
+/// document or the door code isn't valid. Then the connection is closed, or its database is unchanged or as the last commit
 /// left it.
 pub fn find_old<S: Alter>(
     conn: &mut Connection<S>,
@@ -56,6 +58,11 @@ pub fn find_old<S: Alter>(
         → Rests (state S.Store conn.old) (state S.Store conn.new) }
 {
     let mut buffer = [0; Id::TEXT_LENGTH];
-    let document = find_document(conn, id.write(&mut buffer))?;
-    read_document(alloc, base, document)
+    let id = id.write(&mut buffer);
+    let Some(document) = find_document(conn, id)? else {
+        return Ok(None);
+    };
+    let code = find_secret(conn, id)?;
+    let resource = read_parts(alloc, base, document.as_str(), text_of(code.as_ref()))?;
+    Ok(Some(resource))
 }

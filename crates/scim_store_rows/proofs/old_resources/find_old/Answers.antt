@@ -1,17 +1,73 @@
-use Rattle.std.proofs.Common.{option_map, string_bytes}
+use Rattle.std.specs.declared.alloc.Global.{Global}
+use Rattle.scim_store_rows.proofs.CodeLemmas.{shown_copied}
+use Rattle.std.proofs.Common.{Bor, String, option_map, string_bytes, List, ℕ, Option, ap, ◌∙◌, subst, arith}
 use Rattle.sqlite.specs.Held.{state}
-use Rattle.scim_store_tables.proofs.Facts.{if_then}
-use Rattle.scim_store_rows.proofs.FindLemmas.{finds_old, rests_where}
+use Rattle.scim_json.specs.Kept.{IsKept}
+use Rattle.scim_store_rows.proofs.FindLemmas.{old_none, old_some, rests_where, rests_then, stands_still}
+use Rattle.scim_store_rows.proofs.SpareLemmas.{keeps_tables, spares_then}
+use Rattle.scim_store_rows.proofs.WalkLemmas.{stands_tables}
 use Rattle.scim_store_rows.proofs.old_resources.find_old.Goals as goal
-
-pub returns-clause-found : goal.returns-clause-found
-returns-clause-found g c clean =
-    if_then c.read_document.result _ _ (λ found reads store stands.
-    finds_old c.args.base.now c.args.id (state g.S.Store c.args.conn.now) (state g.S.Store c.find_document.new.conn) (option_map string_bytes c.in_ok-document.document) found c.write.ensures.id
-    (rw (c.write.ensures.value) at (c.in_ok-document.ensures.found clean)) reads store stands) c.read_document.ensures
-
-pub returns-clause-rests : goal.returns-clause-rests
-returns-clause-rests g c clean store stands = rests_where c.args.base.now (state g.S.Store c.args.conn.now) (state g.S.Store c.find_document.new.conn) (c.find_document.ensures.rests clean) store stands
 
 pub returns-in_err-document-clause-rests : goal.returns-in_err-document-clause-rests
 returns-in_err-document-clause-rests g c clean store stands = rests_where c.args.base.now (state g.S.Store c.args.conn.now) (state g.S.Store c.find_document.new.conn) (c.find_document.ensures.rests clean) store stands
+
+pub returns-in_default-clause-found : goal.returns-in_default-clause-found
+returns-in_default-clause-found g c clean store stands =
+    old_none c.args.base.now c.args.id c.write-id.ensures.id store (state g.S.Store c.args.conn.now) (state g.S.Store c.find_document.new.conn)
+    (rw (c.write-id.ensures.value, c.in_default.is) at (c.in_ok-document.ensures.found clean)) stands
+
+pub returns-in_err-code-clause-spares : goal.returns-in_err-code-clause-spares
+returns-in_err-code-clause-spares g c =
+    let old = state g.S.Store c.args.conn.now in
+    let mid = state g.S.Store c.find_document.new.conn in
+    spares_then old mid (state g.S.Store c.find_secret.new.conn) c.find_document.ensures.spares (λ clean. keeps_tables old mid (c.in_ok-document.ensures.unchanged clean)) c.find_secret.ensures.spares
+
+pub returns-in_err-code-clause-rests : goal.returns-in_err-code-clause-rests
+returns-in_err-code-clause-rests g c clean store stands =
+    let old = state g.S.Store c.args.conn.now in
+    let mid = state g.S.Store c.find_document.new.conn in
+    let same = c.in_ok-document.ensures.unchanged (omega (arith, clean, c.find_secret.ensures.spares.clean)) (stands_tables c.args.base.now old store stands) in
+    rests_then old mid (state g.S.Store c.find_secret.new.conn) same (rests_where c.args.base.now mid (state g.S.Store c.find_secret.new.conn) (c.find_secret.ensures.rests clean) store (stands_still c.args.base.now old mid store same stands))
+
+pub returns-in_err-resource-clause-spares : goal.returns-in_err-resource-clause-spares
+returns-in_err-resource-clause-spares g c =
+    let old = state g.S.Store c.args.conn.now in
+    let mid = state g.S.Store c.find_document.new.conn in
+    spares_then old mid (state g.S.Store c.find_secret.new.conn) c.find_document.ensures.spares (λ clean. keeps_tables old mid (c.in_ok-document.ensures.unchanged clean)) c.find_secret.ensures.spares
+
+pub returns-clause-spares : goal.returns-clause-spares
+returns-clause-spares g c =
+    let old = state g.S.Store c.args.conn.now in
+    let mid = state g.S.Store c.find_document.new.conn in
+    spares_then old mid (state g.S.Store c.find_secret.new.conn) c.find_document.ensures.spares (λ clean. keeps_tables old mid (c.in_ok-document.ensures.unchanged clean)) c.find_secret.ensures.spares
+
+pub returns-clause-found : goal.returns-clause-found
+returns-clause-found g c clean store stands =
+    let old = state g.S.Store c.args.conn.now in
+    let mid = state g.S.Store c.find_document.new.conn in
+    let new = state g.S.Store c.find_secret.new.conn in
+    let code : Option (List ℕ) = option_map string_bytes c.in_ok-code.code in
+    let given : IsKept c.args.base.now (string_bytes c.in-Some.document) (option_map (λ (s : Bor (String Global)). string_bytes s.now) c.as_ref.result) c.in_ok-resource.resource = rw (c.as_str.ensures.value, c.text_of.ensures) at c.in_ok-resource.ensures in
+    let kept : IsKept c.args.base.now (string_bytes c.in-Some.document) code c.in_ok-resource.resource =
+    subst (λ (d : Option (List ℕ)). IsKept c.args.base.now (string_bytes c.in-Some.document) d c.in_ok-resource.resource) (shown_copied c.as_ref.result ∙ ap (option_map string_bytes) c.as_ref.ensures.value) given in
+    old_some c.args.base.now c.args.id c.write-id.ensures.id store old mid new (string_bytes c.in-Some.document) code c.in_ok-resource.resource
+    (rw (c.write-id.ensures.value, c.in-Some.is) at (c.in_ok-document.ensures.found (omega (arith, clean, c.find_secret.ensures.spares.clean))))
+    (rw c.write-id.ensures.value at (c.in_ok-code.ensures.found clean))
+    (λ has _. c.in_ok-code.ensures.unchanged clean has) kept stands
+
+pub returns-in_default-clause-rests : goal.returns-in_default-clause-rests
+returns-in_default-clause-rests g c clean store stands = rests_where c.args.base.now (state g.S.Store c.args.conn.now) (state g.S.Store c.find_document.new.conn) (c.find_document.ensures.rests clean) store stands
+
+pub returns-in_err-resource-clause-rests : goal.returns-in_err-resource-clause-rests
+returns-in_err-resource-clause-rests g c clean store stands =
+    let old = state g.S.Store c.args.conn.now in
+    let mid = state g.S.Store c.find_document.new.conn in
+    let same = c.in_ok-document.ensures.unchanged (omega (arith, clean, c.find_secret.ensures.spares.clean)) (stands_tables c.args.base.now old store stands) in
+    rests_then old mid (state g.S.Store c.find_secret.new.conn) same (rests_where c.args.base.now mid (state g.S.Store c.find_secret.new.conn) (c.find_secret.ensures.rests clean) store (stands_still c.args.base.now old mid store same stands))
+
+pub returns-clause-rests : goal.returns-clause-rests
+returns-clause-rests g c clean store stands =
+    let old = state g.S.Store c.args.conn.now in
+    let mid = state g.S.Store c.find_document.new.conn in
+    let same = c.in_ok-document.ensures.unchanged (omega (arith, clean, c.find_secret.ensures.spares.clean)) (stands_tables c.args.base.now old store stands) in
+    rests_then old mid (state g.S.Store c.find_secret.new.conn) same (rests_where c.args.base.now mid (state g.S.Store c.find_secret.new.conn) (c.find_secret.ensures.rests clean) store (stands_still c.args.base.now old mid store same stands))
