@@ -9,10 +9,11 @@ use Rattle.scim_store_tables.specs.Lists.{Are, no_rows}
 use Rattle.scim_store_tables.specs.Opening.{MakesTables}
 use Rattle.scim_store_tables.specs.Steps.{Became, Leaves}
 use Rattle.scim_store.specs.Beginning.{Begins, no_store}
-use Rattle.scim_store_rows.specs.Stands.{StandsFor, IsEntry}
+use Rattle.scim_store_rows.specs.Stands.{StandsFor, IsEntry, MayHave}
+use Rattle.scim_store_tables.specs.declared.versions.Version.TheVariants.{Two}
 
 stands_none : (base : List ℕ) (db : Database) → Are db no_rows → StandsFor base db no_store
-stands_none base db are = record { entries = []; resources = refl; sound = All-nil (IsEntry base); keyed = keyed_nil; tables = are }
+stands_none base db are = record { entries = []; resources = refl; sound = All-nil (IsEntry base); keyed = keyed_nil; tables = are; may = All-nil (MayHave Two) }
 
 begins : (old new : Database) → MakesTables old new → Begins old new
 begins old new made none base = stands_none base new (made none)

@@ -1,19 +1,18 @@
 -- Judging the rows of the tables.
 use Rattle.std.proofs.Common.{◌≡◌, ℤ, pos, ℕ, ◌+◌, ◌<◌, ◌≤◌, refl, sym, ◌∙◌, ap, subst, Bool, true, false, ◌&&◌, ◌||◌, List, [], ◌∷◌, ◌++◌, length, take, get_or, map, arith}
-use Rattle.std.specs.Prelude.{Some, None, IsUtf8}
+use Rattle.std.specs.Prelude.{Option, Some, None, IsUtf8}
 use Rattle.std.proofs.lemmas.List.{take_more, take_all, map-append, length-map, get_or-map}
 use Rattle.std.proofs.lemmas.Slice.Eq.{bytes_eq-Decides}
 use Rattle.sqlite.specs.declared.types.Value.{Value}
 use Rattle.sqlite.specs.declared.types.Value.TheVariants.{Null, Int, Real, Text, Blob}
 use Rattle.sqlite.specs.Order.{Row, column}
-use Rattle.scim_store_tables.specs.Lists.{has_text, resource_values}
-use Rattle.serde_json.specs.Data.{Data}
+use Rattle.scim_store_tables.specs.declared.versions.Version.{Version}
+use Rattle.scim_store_tables.specs.Lists.{has_text, resource_values, secret_values}
 use Rattle.scim_cell.specs.Content.{Content}
 use Rattle.scim_cell.specs.Ids.{id_text}
 use Rattle.scim_store_rows.specs.Audit.{kind_number}
-use Rattle.scim_json.specs.PartData.{stored_data}
-use Rattle.scim_json.specs.Stored.{IsDocumentText}
-use Rattle.scim_json.proofs.Facts.{documents_are_apart}
+use Rattle.scim_json.specs.Kept.{IsKept}
+use Rattle.scim_json.proofs.Facts.{kept_parts_determine}
 use Rattle.std.specs.Prelude.{nat_eq}
 use Rattle.std.proofs.lemmas.Bool.Decides.{nat_tests, Decides-int_eq}
 use Rattle.std.specs.Ordering.{int_eq, nat_cmp, is_eq, ordering_reverse}
@@ -32,7 +31,7 @@ use Rattle.std.specs.declared.cmp.Ordering.TheVariants.{Less, Equal, Greater}
 use Rattle.std.specs.Cmp.Lexicographic.{slice_cmp}
 use Rattle.scim_store.proofs.ValueLemmas.{texts_of}
 use denote.Ref.{Bor}
-use Rattle.scim_store.specs.code.Damage.{pair_of, triple_of, is_pair, is_triple, is_number, is_row, IsRowOf, HasRows, AreOfOne}
+use Rattle.scim_store.specs.code.Damage.{pair_of, triple_of, is_pair, is_triple, is_number, is_row, IsRowOf, HasRows, HasCode, AreOfOne}
 use Rattle.scim_store_tables.proofs.Facts.{text_of}
 use Rattle.scim_store_rows.proofs.Facts.{tied}
 
@@ -122,23 +121,20 @@ same_text a b row id kind is at = (let c : Text b ≡ Text a = at ∙ ap (λ r. 
     text_one : {x y : List ℕ} → Text x ≡ Text y → x ≡ y
     text_one h = cc
 
--- a text is a document of one resource only
-pub same_document : (base text : List ℕ) (a b : Content) → IsDocumentText base text a → IsDocumentText base text b → a ≡ b
-same_document base text a b one two = documents_are_apart base (stored_data a) a b (one.0, refl) (two.0, data_one (sym one.1 ∙ two.1))
-  where
-    data_one : {x y : Data} → Some x ≡ Some y → x ≡ y
-    data_one h = cc
+-- the row of a resource with a door code is that of the one whose kept parts its document and the code are
+pub the_one : (version : Version) (base text : List ℕ) (row : Row) (code : Option (List ℕ)) (r other : Content) → IsRowOf version base row code other → Text text ≡ column row 2 → IsKept base text code r → other ≡ r
+the_one version base text row code r other of at reads =
+    kept_parts_determine base text code other r (subst (λ (t : List ℕ). IsKept base t code other) (same_text of.document text row (id_text other.id) (kind_number other.kind) of.row_is at) of.kept) reads
 
--- the row of a resource is that of the one that its document is of
-pub no_other : (base text : List ℕ) (row : Row) (r other : Content) → IsRowOf base row other → Text text ≡ column row 2 → IsDocumentText base text r → is_row (id_text r.id) (kind_number r.kind) text row ≡ true
-no_other base text row r other of at reads =
-    (let same = same_text of.0 text row (id_text other.id) (kind_number other.kind) of.1 at in
-    let one : other ≡ r = same_document base text other r (subst (λ (t : List ℕ). IsDocumentText base t other) same of.2) reads in
-    row_has (id_text r.id) (kind_number r.kind) text row (of.1 ∙ (λ i. resource_values (id_text (one i).id) (kind_number (one i).kind) (same i))))
+pub no_other : (version : Version) (base text : List ℕ) (row : Row) (code : Option (List ℕ)) (r other : Content) → IsRowOf version base row code other → Text text ≡ column row 2 → IsKept base text code r → is_row (id_text r.id) (kind_number r.kind) text row ≡ true
+no_other version base text row code r other of at reads =
+    (let same = same_text of.document text row (id_text other.id) (kind_number other.kind) of.row_is at in
+    let one : other ≡ r = the_one version base text row code r other of at reads in
+    row_has (id_text r.id) (kind_number r.kind) text row (of.row_is ∙ (λ i. resource_values (id_text (one i).id) (kind_number (one i).kind) (same i))))
 
 -- a row without a document in UTF-8 is of no resource
-pub no_document : (base : List ℕ) (row : Row) → ReadsBack IsUtf8 Text (column row 2) None → (c : Content) → IsRowOf base row c → ⊥
-no_document base row none c of = none of.0 of.3 (sym (ap (λ r. column r 2) of.1))
+pub no_document : (version : Version) (base : List ℕ) (row : Row) (code : Option (List ℕ)) → ReadsBack IsUtf8 Text (column row 2) None → (c : Content) → IsRowOf version base row code c → ⊥
+no_document version base row code none c of = none of.document of.utf8 (sym (ap (λ r. column r 2) of.row_is))
 
 -- ---- values in order
 
@@ -196,18 +192,54 @@ alone [] row low high is = absurd (omega (arith, low))
 alone (r ∷ []) row low high is = ap (λ x. x ∷ []) (sym is)
 alone (r ∷ s ∷ rows) row low high is = absurd (omega (arith, high))
 
-pub one_yes : (base : List ℕ) (row : Row) (resources names members : List Row) (c : Content) → resources ≡ row ∷ [] → IsRowOf base row c → HasRows c names members → AreOfOne base resources names members
-one_yes base row resources names members c is of has = subst (λ rs. AreOfOne base rs names members) (sym is) (c, of, has)
+-- what isn't false is true
+pub true_or : (b : Bool) → (b ≡ false → ⊥) → b ≡ true
+true_or true never = refl
+true_or false never = absurd (never refl)
 
--- the resource whose row it is has the rows
-pub one_no : (base : List ℕ) (row : Row) (resources names members : List Row) (c : Content) → resources ≡ row ∷ [] → IsRowOf base row c → AreOfOne base resources names members → HasRows c names members
-one_no base row resources names members c is of all =
-    (let it : AreOfOne base (row ∷ []) names members = subst (λ rs. AreOfOne base rs names members) is all in
-    let text : it.1.0 ≡ of.0 = document_one (sym it.1.1 ∙ of.1) in
-    subst (λ d. HasRows d names members) (same_document base of.0 it.0 c (subst (λ (t : List ℕ). IsDocumentText base t it.0) text it.1.2) of.2) it.2)
+-- ---- door codes
+
+-- one row that is a pair, and no other
+pub one_pair : (rows : List Row) (id text : List ℕ) (row : Row) → length rows ≡ 1 → row ≡ get_or rows 0 row → is_pair id text row ≡ true → rows ≡ secret_values id text ∷ []
+one_pair [] id text row long at is = absurd cc
+one_pair (r ∷ []) id text row long at is = ap (λ x. x ∷ []) (sym at ∙ pair_is id text row is)
+one_pair (r ∷ s ∷ rows) id text row long at is = absurd (omega (arith, long))
+
+pub pair_there : (rows : List Row) (id text : List ℕ) (row : Row) → row ≡ get_or rows 0 row → rows ≡ secret_values id text ∷ [] → is_pair id text row ≡ true
+pair_there rows id text row at is = pair_has id text row (at ∙ ap (λ rs. get_or rs 0 row) is)
+
+-- rows have one door code at most
+pub one_code : (rows : List Row) (a b : Option (List ℕ)) → HasCode rows a → HasCode rows b → a ≡ b
+one_code [] a b one two = one ∙ sym two
+one_code (row ∷ []) a b one two = (let same : one.0 ≡ two.0 = text_one (sym one.2 ∙ two.2) in one.1 ∙ ap (λ (t : List ℕ). Some t) same ∙ sym two.1)
   where
-    document_one : {a b x y : Value} {s t : List ℕ} → ◌≡◌ {A = Row} (a ∷ b ∷ Text s ∷ []) (x ∷ y ∷ Text t ∷ []) → s ≡ t
-    document_one h = cc
+    text_one : {x y : List ℕ} → Text x ≡ Text y → x ≡ y
+    text_one h = cc
+one_code (row ∷ other ∷ rows) a b one two = absurd one
 
-pub one_none : (base : List ℕ) (row : Row) (resources names members : List Row) → resources ≡ row ∷ [] → ((c : Content) → IsRowOf base row c → ⊥) → AreOfOne base resources names members → ⊥
-one_none base row resources names members is none all = (let it : AreOfOne base (row ∷ []) names members = subst (λ rs. AreOfOne base rs names members) is all in none it.0 it.1)
+-- ---- all rows of one resource
+
+module _ (version : Version) (base : List ℕ) (row : Row) (resources names members secrets : List Row) (is : resources ≡ row ∷ []) where
+  -- what is compared of one row
+  one_of : AreOfOne version base resources names members secrets → AreOfOne version base (row ∷ []) names members secrets
+  one_of all = subst (λ rs. AreOfOne version base rs names members secrets) is all
+
+  pub one_yes : (c : Content) (code : Option (List ℕ)) → HasCode secrets code → IsRowOf version base row code c → HasRows c names members secrets → AreOfOne version base resources names members secrets
+  one_yes c code coded of has = subst (λ rs. AreOfOne version base rs names members secrets) (sym is) (c, code, coded, of, has)
+
+  -- the rows have a door code, or none
+  pub one_coded : AreOfOne version base resources names members secrets → (code : Option (List ℕ)) × HasCode secrets code
+  one_coded all = (let it = one_of all in (it.1, it.2))
+
+  -- the resource whose row it is has the rows
+  pub one_no : (c : Content) (code : Option (List ℕ)) → HasCode secrets code → IsRowOf version base row code c → AreOfOne version base resources names members secrets → HasRows c names members secrets
+  one_no c code coded of all =
+      (let it = one_of all in
+      let there : IsRowOf version base row code it.0 = subst (λ (o : Option (List ℕ)). IsRowOf version base row o it.0) (one_code secrets it.1 code it.2 coded) it.3 in
+      let text : Text of.document ≡ column row 2 = sym (ap (λ r. column r 2) of.row_is) in
+      subst (λ d. HasRows d names members secrets) (the_one version base of.document row code c it.0 there text of.kept) it.4)
+
+  pub one_none : (code : Option (List ℕ)) → HasCode secrets code → ((c : Content) → IsRowOf version base row code c → ⊥) → AreOfOne version base resources names members secrets → ⊥
+  one_none code coded none all =
+      (let it = one_of all in
+      none it.0 (subst (λ (o : Option (List ℕ)). IsRowOf version base row o it.0) (one_code secrets it.1 code it.2 coded) it.3))

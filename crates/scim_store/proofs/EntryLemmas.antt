@@ -1,15 +1,17 @@
 -- The rows of the resources of a store, where one of them is replaced.
-use Rattle.std.proofs.Common.{◌≡◌, ◌≢◌, ℕ, zero, suc, ◌<◌, length, refl, sym, ◌∙◌, ap, Bool, true, false, not, ◌&&◌, ◌||◌, cond, List, [], ◌∷◌, ◌++◌, map, filter, get_or, arith}
-use Rattle.std.specs.Prelude.{All, AllPairs, IsPermutation}
+use Rattle.std.proofs.Common.{◌≡◌, ◌≢◌, ℕ, zero, suc, ◌<◌, length, refl, sym, ◌∙◌, ap, subst, Bool, true, false, not, ◌&&◌, ◌||◌, cond, List, [], ◌∷◌, ◌++◌, map, filter, get_or, arith}
+use Rattle.std.specs.Prelude.{All, AllPairs, IsPermutation, IsUtf8, Option, None, Some, IfSome, string_bytes}
+use Rattle.std.specs.Option.{option_map, option_to_list}
 use Rattle.std.specs.List.{flat_map}
 use Rattle.std.specs.Ordering.{nat_cmp, is_eq}
 use Rattle.std.specs.Cmp.Lexicographic.{slice_cmp}
 use Rattle.std.proofs.lemmas.List.{append_assoc}
-use Rattle.std.proofs.lemmas.List.Elements.{All-head, All-tail, All-append, recursion_from_All, filter-append}
+use Rattle.std.proofs.lemmas.List.Elements.{All-nil, All-cons, All-head, All-tail, All-append, recursion_from_All, filter-append}
 use Rattle.std.proofs.lemmas.List.Folds.{list_any_at}
 use Rattle.std.proofs.lemmas.List.Kept.{AllPairs-cons, AllPairs-filter}
-use Rattle.std.proofs.lemmas.List.Sorted.{IsPermutation-trans, IsPermutation-append_right}
+use Rattle.std.proofs.lemmas.List.Sorted.{IsPermutation-trans, IsPermutation-append_left, IsPermutation-append_right}
 use Rattle.std.proofs.lemmas.Grind.{flat_map-append}
+use Rattle.std.proofs.lemmas.Str.{IsUtf8-string_bytes}
 use Rattle.std.proofs.lemmas.Map.Text.{is_eq-slice_cmp}
 use Rattle.std.proofs.lemmas.Slice.Eq.{bytes_eq-Decides}
 use Rattle.std.specs.Str.{bytes_eq}
@@ -17,10 +19,12 @@ use Rattle.sqlite_trees.proofs.ListLemmas.{IsPermutation-same, IsPermutation-fil
 use Rattle.sqlite.specs.Order.{Row}
 use Rattle.scim_schema.proofs.Facts.{and_first}
 use Rattle.scim_cell.specs.Ids.{IsId, id_text}
-use Rattle.scim_store_tables.specs.Lists.{has_text, has_texts}
+use Rattle.scim_store_tables.specs.Lists.{has_text, has_texts, secret_values}
 use Rattle.scim_store_rows.specs.Stands.{Entry, is_among, resource_row, member_row}
 use Rattle.scim_store_rows.proofs.Facts.{tied, ids_apart}
-use Rattle.scim_store.specs.Edits.{is_member}
+use Rattle.scim_store.specs.Edits.{is_member, is_secret, removes_code, rows_of_secret, TurnsCode}
+use Rattle.scim_store.specs.declared.edits.SecretEdit.{SecretEdit}
+use Rattle.scim_store.specs.declared.edits.SecretEdit.TheVariants.{Stays, Goes, Comes, Becomes}
 
 -- ---- rows of one kind
 
@@ -33,16 +37,18 @@ rest_stays f stays (e ∷ rest) all =
 
 -- what comes and what stays of the rows are those of the resources of which one is replaced
 pub replaced : (f : Entry → List Row) (stays : Row → Bool) (es one rest news all : List Entry) (come : List Row)
-    → IsPermutation es (one ++ rest) → All (λ e. All (λ r. stays r ≡ true) (f e)) rest → come ++ filter stays (flat_map f one) ≡ flat_map f news → IsPermutation (news ++ rest) all
+    → IsPermutation es (one ++ rest) → All (λ e. All (λ r. stays r ≡ true) (f e)) rest → IsPermutation (come ++ filter stays (flat_map f one)) (flat_map f news) → IsPermutation (news ++ rest) all
     → IsPermutation (come ++ filter stays (flat_map f es)) (flat_map f all)
 replaced f stays es one rest news all come from keep new into =
     let left : filter stays (flat_map f (one ++ rest)) ≡ filter stays (flat_map f one) ++ flat_map f rest =
     ap (filter stays) (flat_map-append f one rest) ∙ filter-append stays (flat_map f one) (flat_map f rest) ∙ ap (λ (l : List Row). filter stays (flat_map f one) ++ l) (rest_stays f stays rest keep) in
     let moved : IsPermutation (come ++ filter stays (flat_map f es)) (come ++ filter stays (flat_map f (one ++ rest))) =
     IsPermutation-append_right come _ _ (IsPermutation-filter stays _ _ (IsPermutation-flat_map f _ _ from)) in
-    let whole : come ++ filter stays (flat_map f (one ++ rest)) ≡ flat_map f (news ++ rest) =
-    ap (λ (l : List Row). come ++ l) left ∙ sym (append_assoc come (filter stays (flat_map f one)) (flat_map f rest)) ∙ ap (λ (l : List Row). l ++ flat_map f rest) new ∙ sym (flat_map-append f news rest) in
-    IsPermutation-trans _ _ _ moved (IsPermutation-trans _ _ _ (IsPermutation-same _ _ whole) (IsPermutation-flat_map f _ _ into))
+    let apart : come ++ filter stays (flat_map f (one ++ rest)) ≡ (come ++ filter stays (flat_map f one)) ++ flat_map f rest =
+    ap (λ (l : List Row). come ++ l) left ∙ sym (append_assoc come (filter stays (flat_map f one)) (flat_map f rest)) in
+    let whole : IsPermutation (come ++ filter stays (flat_map f (one ++ rest))) (flat_map f (news ++ rest)) =
+    IsPermutation-trans _ _ _ (IsPermutation-same _ _ apart) (IsPermutation-trans _ _ _ (IsPermutation-append_left (flat_map f rest) _ _ new) (IsPermutation-same _ _ (sym (flat_map-append f news rest)))) in
+    IsPermutation-trans _ _ _ moved (IsPermutation-trans _ _ _ whole (IsPermutation-flat_map f _ _ into))
 
 -- ---- rows of resources
 
@@ -126,3 +132,48 @@ once_more come gone values one two new =
     let in' : is_among x (staying gone values) ≡ true = ap (λ y. is_among y (staying gone values)) same ∙ at_among (staying gone values) j e under in
     let left : (is_among x values && not (is_among x gone)) ≡ true = sym (among_staying x gone values) ∙ in' in
     let c : true ≡ false = sym (and_first (is_among x values) (not (is_among x gone)) left) ∙ out in cc))
+
+-- ---- door codes
+
+-- the row of a door code that is there
+abbrev pub code_rows : List ℕ → Option (List ℕ) → List Row
+code_rows id code = option_to_list (option_map (secret_values (id_text id)) code)
+
+-- the old door code, where its row stays
+abbrev pub code_left : SecretEdit → Option (List ℕ) → Option (List ℕ)
+code_left edit code = cond (removes_code edit) None code
+
+pub secret_left : (id : List ℕ) (edit : SecretEdit) (code : Option (List ℕ)) → filter (λ r. not (is_secret (id_text id) edit r)) (code_rows id code) ≡ code_rows id (code_left edit code)
+secret_left id edit code = go (removes_code edit) code
+  where
+    go : (b : Bool) (code : Option (List ℕ)) → filter (λ r. not (b && has_text 0 (id_text id) r)) (code_rows id code) ≡ code_rows id (cond b None code)
+    go true None = refl
+    go true (Some t) = ap (λ b. cond (not b) (secret_values (id_text id) t ∷ []) []) (tied (id_text id))
+    go false None = refl
+    go false (Some t) = refl
+
+pub secret_stays : (x id : List ℕ) (edit : SecretEdit) (code : Option (List ℕ)) → is_eq (slice_cmp nat_cmp (id_text x) (id_text id)) ≡ false → All (λ r. not (is_secret (id_text id) edit r) ≡ true) (code_rows x code)
+secret_stays x id edit None apart = All-nil _
+secret_stays x id edit (Some t) apart =
+    All-cons (λ r. not (is_secret (id_text id) edit r) ≡ true) (secret_values (id_text x) t) [] (ap (λ b. not (removes_code edit && b)) apart ∙ ap not (and_false (removes_code edit))) (All-nil _)
+
+-- what comes and what stays are the new door code
+pub turned : (id : List ℕ) (old new : Option (List ℕ)) (edit : SecretEdit) → TurnsCode old new edit → rows_of_secret (id_text id) edit ++ code_rows id (code_left edit old) ≡ code_rows id new
+turned id old new Stays turns = ap (code_rows id) (sym turns)
+turned id old new Goes turns = ap (code_rows id) (sym turns.1)
+turned id old new (Comes code) turns = ap (λ o. secret_values (id_text id) (string_bytes code) ∷ code_rows id o) turns.0 ∙ ap (code_rows id) (sym turns.1)
+turned id old new (Becomes code) turns = ap (code_rows id) (sym turns.1)
+
+-- where there was none, what comes is the new one
+pub first_turned : (id : List ℕ) (new : Option (List ℕ)) (edit : SecretEdit) → TurnsCode None new edit → rows_of_secret (id_text id) edit ≡ code_rows id new
+first_turned id new Stays turns = ap (code_rows id) (sym turns)
+first_turned id new Goes turns = absurd (turns.0 refl)
+first_turned id new (Comes code) turns = ap (code_rows id) (sym turns.1)
+first_turned id new (Becomes code) turns = absurd (turns.0 refl)
+
+-- the new door code is in UTF-8
+pub turned_utf8 : (old new : Option (List ℕ)) (edit : SecretEdit) → TurnsCode old new edit → IfSome old IsUtf8 → IfSome new IsUtf8
+turned_utf8 old new Stays turns was = subst (λ o. IfSome o IsUtf8) (sym turns) was
+turned_utf8 old new Goes turns was = subst (λ o. IfSome o IsUtf8) (sym turns.1) tt
+turned_utf8 old new (Comes code) turns was = subst (λ o. IfSome o IsUtf8) (sym turns.1) (IsUtf8-string_bytes code)
+turned_utf8 old new (Becomes code) turns was = subst (λ o. IfSome o IsUtf8) (sym turns.1) (IsUtf8-string_bytes code)

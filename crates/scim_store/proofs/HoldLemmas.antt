@@ -1,6 +1,6 @@
 -- What the code compares of the rows of one id is what is said of them.
 use Rattle.std.proofs.Common.{◌≡◌, ◌≢◌, ℕ, zero, suc, refl, sym, ◌∙◌, ap, subst, Bool, true, false, List, [], ◌∷◌, get_or, map, filter, arith}
-use Rattle.std.specs.Prelude.{AllPairs, Option, None, Some, IsPermutation}
+use Rattle.std.specs.Prelude.{AllPairs, Option, None, Some, IfSome, IsPermutation, IsUtf8}
 use Rattle.std.specs.Option.{option_to_list}
 use Rattle.std.specs.List.{flat_map, AllByRecursion, IsDistinct}
 use Rattle.std.specs.List.Sorted.{IsStrictlySortedBy}
@@ -13,7 +13,7 @@ use Rattle.std.proofs.lemmas.Cmp.{tied_itself, nat_list_cmp_total}
 use Rattle.std.proofs.lemmas.List.{append-nil, nil_from_length}
 use Rattle.std.proofs.lemmas.List.Elements.{All-nil, All-cons, All-head, All-from_recursion, All-weaker, recursion_from_All}
 use Rattle.std.proofs.lemmas.List.Kept.{AllPairs-cons}
-use Rattle.std.proofs.lemmas.List.Sorted.{IsPermutation-sym, IsPermutation-trans, length_permutation, list_any-IsPermutation}
+use Rattle.std.proofs.lemmas.List.Sorted.{IsPermutation-sym, IsPermutation-trans, IsPermutation-map, length_permutation, list_any-IsPermutation}
 use Rattle.std.proofs.lemmas.Map.Keys.{sorted_head, sorted_tail, IsDistinct-IsPermutation}
 use Rattle.std.proofs.lemmas.Map.Text.{is_eq-slice_cmp}
 use Rattle.std.proofs.lemmas.Slice.Eq.{bytes_eq-Decides}
@@ -25,24 +25,47 @@ use Rattle.sqlite.specs.Order.{Row, column, value_cmp}
 use Rattle.sqlite_value.proofs.OrderLemmas.{value_cmp_total, value_cmp-Text}
 use Rattle.scim_cell.specs.Ids.{id_text}
 use Rattle.scim_shelf.proofs.Facts.{keyed_nil, ids_differ}
+use Rattle.scim_store_tables.specs.declared.versions.Version.{Version}
+use Rattle.scim_store_tables.specs.Lists.{secret_values}
 use Rattle.scim_store_tables.specs.Reading.{DoNotFall, columns_cmp, owner_first, group_first}
-use Rattle.scim_value.specs.Uniqueness.{Name, unique_names}
-use Rattle.scim_store.specs.Damage.{Tables, AreThoseOf, HoldsAt, rows_at}
+use Rattle.scim_store_tables.proofs.Facts.{order_rising}
+use Rattle.scim_value.specs.Uniqueness.{unique_names}
+use Rattle.scim_store.specs.Damage.{Tables, IsEntryIn, AreThoseOf, HoldsAt, rows_at}
 use Rattle.scim_store.specs.Owners.{is_of}
-use Rattle.scim_store_rows.specs.Stands.{Entry, IsEntry, resource_row, name_row, name_rows, member_row, member_rows}
-use Rattle.scim_store.specs.code.Damage.{owned_name, owned_member, AreOfOne}
-use Rattle.scim_store.proofs.NameLemmas.{few_of}
+use Rattle.scim_store_rows.specs.Stands.{Entry, IsEntry, resource_row, name_row, name_rows, member_row, member_rows, secret_rows}
+use Rattle.scim_store.specs.code.Damage.{owned_names, owned_member, owned_code, IsRowOf, HasRows, HasCode, AreOfOne}
+use Rattle.scim_store.proofs.OrderLemmas.{ordered_rise, owned_permuted}
 use Rattle.scim_store.proofs.SoundLemmas.{few_keyed}
 
 -- the rows are those of one resource, or there are none
-abbrev Fit : List ℕ → List Row → List Row → List Row → Option Entry → Type 0
-Fit base resources names members o = AreThoseOf base (option_to_list o) (record { resources = resources; names = names; members = members })
+abbrev Fit : Version → List ℕ → List Row → List Row → List Row → List Row → Option Entry → Type 0
+Fit version base resources names members secrets o = AreThoseOf version base (option_to_list o) (record { resources = resources; names = names; members = members; secrets = secrets })
 
-names_of_one : (e : Entry) → map owner_first (flat_map name_rows (e ∷ [])) ≡ map (owned_name (id_text e.content.id)) (unique_names e.content)
-names_of_one e = ap (map owner_first) (append-nil (name_rows e)) ∙ map-map owner_first (name_row e.content.id) (unique_names e.content)
+-- the rows of the names of a resource, in order of attribute
+names_of_one : (e : Entry) → IsPermutation (owned_names e.content) (map owner_first (flat_map name_rows (e ∷ [])))
+names_of_one e = IsPermutation-trans _ _ _ (owned_permuted e) (IsPermutation-same _ _ (sym (ap (map owner_first) (append-nil (name_rows e)))))
 
 members_of_one : (e : Entry) → map group_first (flat_map member_rows (e ∷ [])) ≡ map (owned_member (id_text e.content.id)) e.members
 members_of_one e = ap (map group_first) (append-nil (member_rows e)) ∙ map-map group_first (member_row e.content.id) e.members
+
+none_there : (rows : List Row) → IsPermutation rows [] → rows ≡ []
+none_there rows same = nil_from_length rows (sym (length_permutation rows [] same))
+
+-- the door code of the rows is in UTF-8
+code_utf8 : (rows : List Row) (code : Option (List ℕ)) → HasCode rows code → IfSome code IsUtf8
+code_utf8 [] code none = subst (λ (o : Option (List ℕ)). IfSome o IsUtf8) (sym none) tt
+code_utf8 (row ∷ []) code one = subst (λ (o : Option (List ℕ)). IfSome o IsUtf8) (sym one.1) one.3
+code_utf8 (row ∷ other ∷ rows) code none = absurd none
+
+-- the rows of a door code in UTF-8 have it
+has_code : (id : List ℕ) (code : Option (List ℕ)) → IfSome code IsUtf8 → HasCode (owned_code id code) code
+has_code id None utf8 = refl
+has_code id (Some text) utf8 = (text, refl, refl, utf8)
+
+-- rows in any order of at most one door code
+same_code : (id : List ℕ) (code : Option (List ℕ)) (rows : List Row) → IsPermutation rows (owned_code id code) → rows ≡ owned_code id code
+same_code id None rows same = none_there rows same
+same_code id (Some text) rows same = one_permutation (secret_values id text) rows (IsPermutation-sym _ _ same)
 
 -- values in order are each there once
 pub once_rising : (vs : List (List ℕ)) → IsStrictlySortedBy (slice_cmp nat_cmp) vs → AllPairs (λ v w. v ≢ w) vs
@@ -53,41 +76,38 @@ once_rising (v ∷ vs) up =
     (once_rising vs (sorted_tail (slice_cmp nat_cmp) v vs up))
 
 -- what was compared holds of one resource, or of none
-pub to_fit : (base : List ℕ) (resources names members : List Row) → AreOfOne base resources names members → (o : Option Entry) × Fit base resources names members o
-to_fit base [] names members of = (
+pub to_fit : (version : Version) (base : List ℕ) (resources names members secrets : List Row) → AreOfOne version base resources names members secrets → (o : Option Entry) × Fit version base resources names members secrets o
+to_fit version base [] names members secrets of = (
   None,
   record {
-    sound = All-nil (IsEntry base);
+    sound = All-nil (IsEntryIn version base);
     keyed = keyed_nil;
     resources = IsPermutation-same [] [] refl;
     names = IsPermutation-same names [] of.0;
     members = IsPermutation-same members [] of.1;
+    secrets = IsPermutation-same secrets [] of.2;
   },
 )
-to_fit base (row ∷ []) names members of =
+to_fit version base (row ∷ []) names members secrets of =
     (let c = of.0 in
-    let row_of = of.1 in
-    let rows = of.2 in
-    let e : Entry = record { content = c; document = row_of.0; members = rows.1 } in (
+    let code = of.1 in
+    let row_of = of.3 in
+    let has = of.4 in
+    let e : Entry = record { content = c; document = row_of.document; members = has.values; door_code = code } in
+    let entry : IsEntry base e = record { document = row_of.kept; utf8 = row_of.utf8; code_utf8 = code_utf8 secrets code of.2; members = record { once = once_rising has.values has.rising; listed = has.listed } } in (
       Some e,
       record {
-        sound = All-cons (IsEntry base) e [] (record { document = row_of.2; utf8 = row_of.3; members = record { once = once_rising rows.1 rows.2; listed = rows.3 } }) (All-nil (IsEntry base));
+        sound = All-cons (IsEntryIn version base) e [] (record { entry = entry; may = row_of.may }) (All-nil (IsEntryIn version base));
         keyed = few_keyed (Some e);
-        resources = IsPermutation-same _ _ (ap (λ r. r ∷ []) row_of.1);
-        names = IsPermutation-same _ _ (rows.0 ∙ sym (names_of_one e));
-        members = IsPermutation-same _ _ (rows.4 ∙ sym (members_of_one e));
+        resources = IsPermutation-same _ _ (ap (λ r. r ∷ []) row_of.row_is);
+        names = IsPermutation-trans _ _ _ (IsPermutation-same _ _ has.named) (names_of_one e);
+        members = IsPermutation-same _ _ (has.members_are ∙ sym (members_of_one e));
+        secrets = IsPermutation-same _ _ (has.coded ∙ ap (owned_code (id_text c.id)) (sym row_of.kept.code) ∙ sym (append-nil (secret_rows e)));
       },
     ))
-to_fit base (row ∷ other ∷ rest) names members of = absurd of
+to_fit version base (row ∷ other ∷ rest) names members secrets of = absurd of
 
 -- ---- and back
-
-none_there : (rows : List Row) → IsPermutation rows [] → rows ≡ []
-none_there rows same = nil_from_length rows (sym (length_permutation rows [] same))
-
-few_rows : (f : Name → Row) (o : Option Name) (rows : List Row) → IsPermutation rows (map f (option_to_list o)) → rows ≡ map f (option_to_list o)
-few_rows f None rows same = none_there rows same
-few_rows f (Some n) rows same = one_permutation (f n) rows (IsPermutation-sym _ _ same)
 
 distinct_once : (vs : List (List ℕ)) → AllPairs (λ v w. v ≢ w) vs → IsDistinct bytes_eq vs
 unfolding IsDistinct
@@ -120,20 +140,29 @@ rise t (v ∷ vs) up apart = (each vs up.0 apart.0, rise t vs up.1 apart.1)
     each (w ∷ ws) low f =
         (strictly w (slice_cmp nat_cmp w v) refl ((λ i. is_lt (ordering_then (sym (tied_itself value_cmp_total (Text t)) i) (ordering_then (sym (value_cmp-Text w v) i) Equal))) ∙ low.0) f.0, each ws low.1 f.1)
 
-pub from_fit : (base : List ℕ) (resources names members : List Row) (o : Option Entry) → DoNotFall (0 ∷ 1 ∷ []) members → Fit base resources names members o → AreOfOne base resources names members
-from_fit base resources names members None up fit =
-    subst (λ rs. AreOfOne base rs names members) (sym (none_there resources fit.resources)) (none_there names fit.names, none_there members fit.members)
-from_fit base resources names members (Some e) up fit =
-    (let sound = All-head (IsEntry base) e [] fit.sound in
+pub from_fit : (version : Version) (base : List ℕ) (resources names members secrets : List Row) (o : Option Entry) → DoNotFall (0 ∷ 1 ∷ 2 ∷ []) names → DoNotFall (0 ∷ 1 ∷ []) members → Fit version base resources names members secrets o → AreOfOne version base resources names members secrets
+from_fit version base resources names members secrets None falls up fit =
+    subst (λ rs. AreOfOne version base rs names members secrets) (sym (none_there resources fit.resources)) (none_there names fit.names, none_there members fit.members, none_there secrets fit.secrets)
+from_fit version base resources names members secrets (Some e) falls up fit =
+    (let sound = All-head (IsEntryIn version base) e [] fit.sound in
     let t = id_text e.content.id in
-    let few = few_of e.content e.content.kind in
     let one : resources ≡ resource_row e ∷ [] = one_permutation (resource_row e) resources (IsPermutation-sym _ _ fit.resources) in
-    let named : names ≡ map (owned_name t) (unique_names e.content) =
-    few_rows (owned_name t) few.0 names (IsPermutation-trans _ _ _ fit.names (IsPermutation-same _ _ (names_of_one e ∙ ap (map (owned_name t)) few.1))) ∙ ap (map (owned_name t)) (sym few.1) in
+    let named : names ≡ owned_names e.content =
+    order_rising (0 ∷ 1 ∷ 2 ∷ []) (owned_names e.content) names (ordered_rise t e.content) (IsPermutation-trans _ _ _ (names_of_one e) (IsPermutation-sym _ _ fit.names)) falls in
     let pulled = pull_back (owned_member t) _ members (IsPermutation-sym _ _ fit.members) e.members (members_of_one e) in
-    let rising = rise t pulled.0 (ascending_from_map _ (owned_member t) pulled.0 (subst (DoNotFall (0 ∷ 1 ∷ [])) pulled.2 up)) (IsDistinct-IsPermutation bytes_eq nat_list_eq_equiv.symm _ _ pulled.1 (distinct_once e.members sound.members.once)) in
-    subst (λ rs. AreOfOne base rs names members) (sym one)
-    (e.content, (e.document, refl, sound.document, sound.utf8), (named, pulled.0, rising, (λ v. sym (list_any-IsPermutation (bytes_eq v) _ _ pulled.1) ∙ sound.members.listed v), pulled.2)))
+    let rising = rise t pulled.0 (ascending_from_map _ (owned_member t) pulled.0 (subst (DoNotFall (0 ∷ 1 ∷ [])) pulled.2 up)) (IsDistinct-IsPermutation bytes_eq nat_list_eq_equiv.symm _ _ pulled.1 (distinct_once e.members sound.entry.members.once)) in
+    let secret : secrets ≡ owned_code t e.door_code = same_code t e.door_code secrets (IsPermutation-trans _ _ _ fit.secrets (IsPermutation-same _ _ (append-nil (secret_rows e)))) in
+    let coded : HasCode secrets e.door_code = subst (λ rs. HasCode rs e.door_code) (sym secret) (has_code t e.door_code sound.entry.code_utf8) in
+    let row_of : IsRowOf version base (resource_row e) e.door_code e.content = record { document = e.document; row_is = refl; kept = sound.entry.document; utf8 = sound.entry.utf8; may = sound.may } in
+    let has : HasRows e.content names members secrets = record {
+      named = named;
+      values = pulled.0;
+      rising = rising;
+      listed = λ v. sym (list_any-IsPermutation (bytes_eq v) _ _ pulled.1) ∙ sound.entry.members.listed v;
+      members_are = pulled.2;
+      coded = secret ∙ ap (owned_code t) sound.entry.document.code;
+    } in
+    subst (λ rs. AreOfOne version base rs names members secrets) (sym one) (e.content, e.door_code, coded, row_of, has))
 
 -- rows in order of more columns are in order of the first
 pub falls_less : (more : List ℕ) (rows : List Row) → DoNotFall (0 ∷ more) rows → DoNotFall (0 ∷ []) rows
@@ -146,14 +175,13 @@ falls_less more rows up = ascending_weaker (λ a b. is_lt (columns_cmp (0 ∷ mo
 
 -- ---- the rows of an id
 
-module _ (base : List ℕ) (tables : Tables) (id : List ℕ) (resources names members : List Row) (r : resources ≡ filter (is_of id) tables.resources) (n : names ≡ filter (is_of id) tables.names) (m : members ≡ filter (is_of id) tables.members) where
-  those : ◌≡◌ {A = Tables} (record { resources = resources; names = names; members = members }) (rows_at id tables)
-  those = λ i. record { resources = r i; names = n i; members = m i }
+module _ (version : Version) (base : List ℕ) (tables : Tables) (id : List ℕ) (rows : Tables) (are : rows ≡ rows_at id tables) where
+  pub holds_yes : AreOfOne version base rows.resources rows.names rows.members rows.secrets → HoldsAt version base tables id
+  holds_yes of = (let fit = to_fit version base rows.resources rows.names rows.members rows.secrets of in (fit.0, subst (AreThoseOf version base (option_to_list fit.0)) are fit.1))
 
-  pub holds_yes : AreOfOne base resources names members → HoldsAt base tables id
-  holds_yes of = (let fit = to_fit base resources names members of in (fit.0, subst (AreThoseOf base (option_to_list fit.0)) those fit.1))
-
-  pub holds_no : DoNotFall (0 ∷ 1 ∷ []) tables.members → HoldsAt base tables id → AreOfOne base resources names members
-  holds_no up at =
-      from_fit base resources names members at.0 (subst (DoNotFall (0 ∷ 1 ∷ [])) (sym m) (ascending-filter _ (is_of id) tables.members up))
-      (subst (AreThoseOf base (option_to_list at.0)) (sym those) at.1)
+  pub holds_no : DoNotFall (0 ∷ 1 ∷ 2 ∷ []) tables.names → DoNotFall (0 ∷ 1 ∷ []) tables.members → HoldsAt version base tables id → AreOfOne version base rows.resources rows.names rows.members rows.secrets
+  holds_no falls up at =
+      from_fit version base rows.resources rows.names rows.members rows.secrets at.0
+      (subst (DoNotFall (0 ∷ 1 ∷ 2 ∷ [])) (sym (ap (λ (t : Tables). t.names) are)) (ascending-filter _ (is_of id) tables.names falls))
+      (subst (DoNotFall (0 ∷ 1 ∷ [])) (sym (ap (λ (t : Tables). t.members) are)) (ascending-filter _ (is_of id) tables.members up))
+      (subst (AreThoseOf version base (option_to_list at.0)) (sym are) at.1)

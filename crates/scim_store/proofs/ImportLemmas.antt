@@ -33,13 +33,15 @@ use Rattle.scim_store_tables.specs.Tables.{no_schema}
 use Rattle.scim_store_tables.proofs.Facts.{HasDone}
 use Rattle.scim_store.specs.declared.edits.Edits.{Edits}
 use Rattle.scim_store_rows.specs.Audit.{kind_number}
-use Rattle.scim_store.specs.Edits.{rows_of_names, rows_of_members, rows_of_document, Replaces}
+use Rattle.scim_json.specs.Kept.{door_code}
+use Rattle.scim_store.specs.Edits.{rows_of_names, rows_of_members, rows_of_secret, rows_of_document, Replaces}
 use Rattle.scim_store.specs.declared.importing.ImportFault.{ImportFault}
 use Rattle.scim_store.specs.code.Importing.{IsFillFault}
 use Rattle.scim_store.specs.Importing.{of_reading, HoldRowsOf, HoldUsers, Fills, LeavesUsers, HasImported}
-use Rattle.scim_store_rows.specs.Stands.{Entry, StandsFor, IsEntry, lists_of, resource_row, name_row, name_rows, member_rows}
+use Rattle.scim_store_rows.specs.Stands.{Entry, StandsFor, IsEntry, lists_of, resource_row, name_row, name_rows, member_rows, secret_rows}
 use Rattle.scim_store.proofs.RowLemmas.{reordered}
 use Rattle.scim_store.proofs.NewStoreLemmas.{holds_new}
+use Rattle.scim_store.proofs.EntryLemmas.{first_turned, turned_utf8}
 use Rattle.scim_store.proofs.StandLemmas.{document_rows, document_utf8}
 
 -- ---- no rows, and more
@@ -58,12 +60,12 @@ and_true false = refl
 -- the edits of a resource that isn't there put in its rows
 pub hold_more : (base : List ℕ) (cs : List Content) (c : Content) (e : Edits) (old new : Database) → Replaces base c.id None (Some c) e
     → ((lists : Lists) → Are old lists
-    → Are new (record lists { resources = rows_of_document e ++ lists.resources; taken = rows_of_names e.id e.names_come.items ++ lists.taken; member = rows_of_members e.id e.members_come.items ++ lists.member }))
+    → Are new (record lists { resources = rows_of_document e ++ lists.resources; taken = rows_of_names e.id e.names_come.items ++ lists.taken; member = rows_of_members e.id e.members_come.items ++ lists.member; secret = rows_of_secret e.id e.secret ++ lists.secret }))
     → HoldRowsOf base cs old → HoldRowsOf base (c ∷ cs) new
 hold_more base cs c e old new replaces did hold =
     let written = replaces.document in
     let es : List Entry = hold.entries in
-    let entry : Entry = record { content = c; document = written.1; members = e.members_come.items } in
+    let entry : Entry = record { content = c; document = written.1; members = e.members_come.items; door_code = door_code c } in
     let document : rows_of_document e ≡ resource_row entry ∷ [] =
     document_rows string_bytes e.document e.id (kind_number e.kind) written.1 written.2 ∙ (λ i. resource_values (replaces.text i) (kind_number (written.0 i)) written.1 ∷ []) in
     let names : rows_of_names e.id e.names_come.items ≡ name_rows entry =
@@ -71,11 +73,12 @@ hold_more base cs c e old new replaces did hold =
     ∙ sym (map-map (name_row c.id) name_of e.names_come.items)
     ∙ ap (map (name_row c.id)) (replaces.names_come ∙ all_stay (unique_names c)) in
     let members : rows_of_members e.id e.members_come.items ≡ member_rows entry = ap (λ t. rows_of_members t e.members_come.items) replaces.text in
+    let secrets : rows_of_secret e.id e.secret ≡ secret_rows entry = ap (λ t. rows_of_secret t e.secret) replaces.text ∙ first_turned c.id (door_code c) e.secret replaces.secret in
     record {
       entries = entry ∷ es;
       resources = IsPermutation-cons _ _ _ hold.resources;
-      sound = All-cons (IsEntry base) entry es (record { document = written.3; utf8 = document_utf8 e.document written.1 written.2; members = record { once = replaces.once; listed = λ v. replaces.members_come v ∙ and_true _ } }) hold.sound;
-      tables = subst (Are new) (λ i. record { resources = document i ++ map resource_row es; taken = names i ++ flat_map name_rows es; member = members i ++ flat_map member_rows es; audit = [] }) (did (lists_of es []) hold.tables);
+      sound = All-cons (IsEntry base) entry es (record { document = written.3; utf8 = document_utf8 e.document written.1 written.2; code_utf8 = turned_utf8 None (door_code c) e.secret replaces.secret tt; members = record { once = replaces.once; listed = λ v. replaces.members_come v ∙ and_true _ } }) hold.sound;
+      tables = subst (Are new) (λ i. record { resources = document i ++ map resource_row es; taken = names i ++ flat_map name_rows es; member = members i ++ flat_map member_rows es; audit = []; secret = secrets i ++ flat_map secret_rows es }) (did (lists_of es []) hold.tables);
     }
 
 -- resources in another order have the same rows
@@ -125,7 +128,8 @@ stands_new base cs db store hold new =
       sound = All-permutation (IsEntry base) _ _ pulled.1 hold.sound;
       keyed = new.keyed;
       tables = subst (λ audit. Are db (lists_of pulled.0 audit)) (sym new.no_rows)
-          (reordered db _ _ hold.tables (IsPermutation-map resource_row _ _ pulled.1) (IsPermutation-flat_map name_rows _ _ pulled.1) (IsPermutation-flat_map member_rows _ _ pulled.1) (IsPermutation-refl _));
+          (reordered db _ _ hold.tables (IsPermutation-map resource_row _ _ pulled.1) (IsPermutation-flat_map name_rows _ _ pulled.1) (IsPermutation-flat_map member_rows _ _ pulled.1) (IsPermutation-refl _) (IsPermutation-flat_map secret_rows _ _ pulled.1));
+      may = λ _ _ _. tt;
     }
 
 -- what a crash may leave of the tables with all resources of a users file

@@ -1,6 +1,7 @@
 pub mod RowLemmas
 pub mod EntryLemmas
 pub mod NameLemmas
+pub mod OrderLemmas
 pub mod ValueLemmas
 pub mod StandLemmas
 pub mod CommitLemmas
@@ -16,6 +17,7 @@ pub mod LeastLemmas
 pub mod JudgeLemmas
 pub mod ApartLemmas
 pub mod PassLemmas
+pub mod CopyLemmas
 pub mod OpenLemmas
 pub mod ShelfLemmas
 pub mod NewStoreLemmas

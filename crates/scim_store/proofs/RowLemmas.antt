@@ -14,14 +14,15 @@ use Rattle.scim_store_tables.specs.Lists.{Lists, Are, IsTableOf, without}
 other_order : (shows : Row → Row) (rows values others : List Row) → IsTableOf shows rows values → IsPermutation values others → IsTableOf shows rows others
 other_order shows rows values others of same = record { keys = of.keys; same = IsPermutation-trans _ _ _ of.same same }
 
-pub reordered : (db : Database) (a b : Lists) → Are db a → IsPermutation a.resources b.resources → IsPermutation a.taken b.taken → IsPermutation a.member b.member → IsPermutation a.audit b.audit → Are db b
-reordered db a b are r t m u = record {
+pub reordered : (db : Database) (a b : Lists) → Are db a → IsPermutation a.resources b.resources → IsPermutation a.taken b.taken → IsPermutation a.member b.member → IsPermutation a.audit b.audit → IsPermutation a.secret b.secret → Are db b
+reordered db a b are r t m u s = record {
   schema = are.schema;
   version = are.version;
   resources = other_order _ _ _ _ are.resources r;
   taken = other_order _ _ _ _ are.taken t;
   member = other_order _ _ _ _ are.member m;
   audit = IsPermutation-trans _ _ _ are.audit u;
+  secret = other_order _ _ _ _ are.secret s;
 }
 
 -- none goes

@@ -1,5 +1,5 @@
 -- Where the rows of each id hold, all rows are those of resources.
-use Rattle.std.proofs.Common.{◌≡◌, ℕ, refl, sym, ◌∙◌, ap, subst, Bool, true, false, ◌||◌, cond, List, [], ◌∷◌, ◌++◌, map, filter}
+use Rattle.std.proofs.Common.{◌≡◌, ℕ, refl, sym, ◌∙◌, ap, subst, Bool, true, false, ◌&&◌, ◌||◌, cond, List, [], ◌∷◌, ◌++◌, map, filter}
 use Rattle.std.specs.Prelude.{All, Contains, Option, None, Some, IsPermutation}
 use Rattle.std.specs.Option.{option_to_list}
 use Rattle.std.specs.List.{flat_map, list_any, AllByRecursion, IsDistinct}
@@ -18,16 +18,18 @@ use Rattle.sqlite_trees.proofs.ListLemmas.{IsPermutation-same, flat_map_none, ma
 use Rattle.sqlite.specs.declared.types.Value.TheVariants.{Text}
 use Rattle.sqlite.specs.Order.{Row, column, value_cmp}
 use Rattle.sqlite_value.proofs.OrderLemmas.{value_cmp_total}
+use Rattle.scim_schema.specs.Names.{attribute_name}
 use Rattle.scim_cell.specs.Ids.{IsId, id_text}
 use Rattle.scim_cell.proofs.Facts.{id_text-injective}
 use Rattle.scim_shelf.specs.Stores.{AreKeyed}
 use Rattle.scim_shelf.proofs.Facts.{AreAbove}
 use Rattle.scim_shelf.proofs.Facts.{keyed_nil, keyed_cons, ids_differ}
+use Rattle.scim_store_tables.specs.declared.versions.Version.{Version}
 use Rattle.scim_store_tables.specs.Reading.{owner_first, group_first}
 use Rattle.scim_value.specs.Uniqueness.{Name, AreApart, unique_names}
 use Rattle.scim_store.specs.Owners.{is_of}
-use Rattle.scim_store.specs.Damage.{Tables, AreThoseOf, AreSound, HoldsAt, rows_at, AreOwned, is_shared}
-use Rattle.scim_store_rows.specs.Stands.{Entry, IsEntry, resource_row, name_row, name_rows, member_rows}
+use Rattle.scim_store.specs.Damage.{Tables, IsEntryIn, AreThoseOf, AreSound, HoldsAt, rows_at, AreOwned, is_shared}
+use Rattle.scim_store_rows.specs.Stands.{Entry, resource_row, name_row, name_rows, member_rows, secret_rows}
 use Rattle.scim_store_tables.proofs.Facts.{text_of}
 use Rattle.scim_store.proofs.IdTextLemmas.{same_owner}
 use Rattle.scim_store_rows.proofs.Facts.{contents}
@@ -68,21 +70,22 @@ grouped ks up are (r ∷ rows) of =
 -- ---- the resources of ids
 
 -- the resources whose rows are those of some ids
-record Collected (base : List ℕ) (tables : Tables) (ks : List (List ℕ)) : Type 0 where
+record Collected (version : Version) (base : List ℕ) (tables : Tables) (ks : List (List ℕ)) : Type 0 where
   entries : List Entry
-  sound : All (IsEntry base) entries
+  sound : All (IsEntryIn version base) entries
   above : (x : List ℕ) → AllByRecursion (λ k. slice_cmp nat_cmp x k ≡ Less) ks → AreAbove x (contents entries)
   rising : IsStrictlySortedBy (λ (a b : Entry). slice_cmp nat_cmp a.content.id b.content.id) entries
   resources : IsPermutation (flat_map (λ k. filter (is_of k) tables.resources) ks) (map resource_row entries)
   names : IsPermutation (flat_map (λ k. filter (is_of k) tables.names) ks) (map owner_first (flat_map name_rows entries))
   members : IsPermutation (flat_map (λ k. filter (is_of k) tables.members) ks) (map group_first (flat_map member_rows entries))
+  secrets : IsPermutation (flat_map (λ k. filter (is_of k) tables.secrets) ks) (flat_map secret_rows entries)
 
 -- the one resource of an id has it
-own_key : (base : List ℕ) (tables : Tables) (k : List ℕ) (e : Entry) → IsId k → AreThoseOf base (e ∷ []) (rows_at k tables) → e.content.id ≡ k
-own_key base tables k e is are =
+own_key : (version : Version) (base : List ℕ) (tables : Tables) (k : List ℕ) (e : Entry) → IsId k → AreThoseOf version base (e ∷ []) (rows_at k tables) → e.content.id ≡ k
+own_key version base tables k e is are =
     (let passes = All-permutation (λ r. is_of k r ≡ true) _ (resource_row e ∷ []) are.resources (filter_passes (is_of k) tables.resources) in
     let here : is_of k (resource_row e) ≡ true = All-head (λ r. is_of k r ≡ true) (resource_row e) [] passes in
-    id_text-injective e.content.id k (sound_id base e (All-head (IsEntry base) e [] are.sound)) is (text_one (text_of (id_text k) (Text (id_text e.content.id)) here)))
+    id_text-injective e.content.id k (sound_id version base e (All-head (IsEntryIn version base) e [] are.sound)) is (text_one (text_of (id_text k) (Text (id_text e.content.id)) here)))
   where
     text_one : {a b : List ℕ} → Text a ≡ Text b → a ≡ b
     text_one h = cc
@@ -100,22 +103,23 @@ contents_above : (x : List ℕ) (es : List Entry) → AreAbove x (contents es) �
 contents_above x [] up = tt
 contents_above x (e ∷ es) up = (up.0, contents_above x es up.1)
 
-collected : (base : List ℕ) (tables : Tables) (ks : List (List ℕ)) → IsStrictlySortedBy (slice_cmp nat_cmp) ks → AllByRecursion IsId ks → ((id : List ℕ) → IsId id → HoldsAt base tables id) → Collected base tables ks
-collected base tables [] up are holds = record {
+collected : (version : Version) (base : List ℕ) (tables : Tables) (ks : List (List ℕ)) → IsStrictlySortedBy (slice_cmp nat_cmp) ks → AllByRecursion IsId ks → ((id : List ℕ) → IsId id → HoldsAt version base tables id) → Collected version base tables ks
+collected version base tables [] up are holds = record {
   entries = [];
-  sound = All-nil (IsEntry base);
+  sound = All-nil (IsEntryIn version base);
   above = λ x _. tt;
   rising = nil_rising;
   resources = IsPermutation-refl [];
   names = IsPermutation-refl [];
   members = IsPermutation-refl [];
+  secrets = IsPermutation-refl [];
 }
-collected base tables (k ∷ ks) up are holds = go (holds k are.0).0 (holds k are.0).1 (collected base tables ks (sorted_tail (slice_cmp nat_cmp) k ks up) are.1 holds)
+collected version base tables (k ∷ ks) up are holds = go (holds k are.0).0 (holds k are.0).1 (collected version base tables ks (sorted_tail (slice_cmp nat_cmp) k ks up) are.1 holds)
   where
     later : AllByRecursion (λ j. slice_cmp nat_cmp k j ≡ Less) ks
     later = sorted_head (slice_cmp nat_cmp) k ks up
 
-    go : (o : Option Entry) → AreThoseOf base (option_to_list o) (rows_at k tables) → Collected base tables ks → Collected base tables (k ∷ ks)
+    go : (o : Option Entry) → AreThoseOf version base (option_to_list o) (rows_at k tables) → Collected version base tables ks → Collected version base tables (k ∷ ks)
     go None of rest = record {
       entries = rest.entries;
       sound = rest.sound;
@@ -124,12 +128,13 @@ collected base tables (k ∷ ks) up are holds = go (holds k are.0).0 (holds k ar
       resources = IsPermutation-append _ [] _ _ of.resources rest.resources;
       names = IsPermutation-append _ [] _ _ of.names rest.names;
       members = IsPermutation-append _ [] _ _ of.members rest.members;
+      secrets = IsPermutation-append _ [] _ _ of.secrets rest.secrets;
     }
     go (Some e) of rest =
-        (let key : e.content.id ≡ k = own_key base tables k e are.0 of in
+        (let key : e.content.id ≡ k = own_key version base tables k e are.0 of in
         record {
           entries = e ∷ rest.entries;
-          sound = All-append (IsEntry base) (e ∷ []) rest.entries of.sound rest.sound;
+          sound = All-append (IsEntryIn version base) (e ∷ []) rest.entries of.sound rest.sound;
           above = λ x low. (ap (slice_cmp nat_cmp x) key ∙ low.0, rest.above x low.1);
           rising = cons_rising e rest.entries (contents_above e.content.id rest.entries (rest.above e.content.id (subst (λ j. AllByRecursion (λ i. slice_cmp nat_cmp j i ≡ Less) ks) (sym key) later))) rest.rising;
           resources = IsPermutation-append _ (resource_row e ∷ []) _ _ of.resources rest.resources;
@@ -139,6 +144,7 @@ collected base tables (k ∷ ks) up are holds = go (holds k are.0).0 (holds k ar
           members =
               IsPermutation-trans _ _ _ (IsPermutation-append _ (map group_first (flat_map member_rows (e ∷ []))) _ _ of.members rest.members)
               (IsPermutation-same _ _ (sym (map-append group_first (flat_map member_rows (e ∷ [])) (flat_map member_rows rest.entries)) ∙ ap (map group_first) (sym (flat_map-append member_rows (e ∷ []) rest.entries))));
+          secrets = IsPermutation-trans _ _ _ (IsPermutation-append _ (flat_map secret_rows (e ∷ [])) _ _ of.secrets rest.secrets) (IsPermutation-same _ _ (sym (flat_map-append secret_rows (e ∷ []) rest.entries)));
         })
 
 -- ---- names that nobody shares
@@ -149,7 +155,10 @@ turned Equal = refl
 turned Greater = refl
 
 pub shared_flips : (r s : Row) → is_shared r s ≡ is_shared s r
-shared_flips r s = ap is_eq (value_cmp_total.antisymm (column r 2) (column s 2)) ∙ turned (value_cmp (column s 2) (column r 2))
+shared_flips r s = (λ i. flips 1 i && flips 2 i)
+  where
+    flips : (place : ℕ) → is_eq (value_cmp (column r place) (column s place)) ≡ is_eq (value_cmp (column s place) (column r place))
+    flips place = ap is_eq (value_cmp_total.antisymm (column r place) (column s place)) ∙ turned (value_cmp (column s place) (column r place))
 
 pub distinct_parts : (xs ys : List Row) → IsDistinct is_shared (xs ++ ys) → AllByRecursion (λ x. AllByRecursion (λ y. is_shared x y ≡ false) ys) xs × IsDistinct is_shared ys
 unfolding IsDistinct
@@ -165,7 +174,7 @@ names_differ : (a b : Entry) (n : Name) → AllByRecursion (λ x. AllByRecursion
 names_differ a b n all in_a in_b =
     (let one = All-contains (λ m. AllByRecursion (λ y. is_shared (owner_first (name_row a.content.id m)) y ≡ false) (map owner_first (name_rows b))) (unique_names a.content) n (All-from_recursion _ _ (under a.content.id (λ x. AllByRecursion (λ y. is_shared x y ≡ false) (map owner_first (name_rows b))) (unique_names a.content) all)) in_a in
     let two : is_shared (owner_first (name_row a.content.id n)) (owner_first (name_row b.content.id n)) ≡ false = All-contains (λ m. is_shared (owner_first (name_row a.content.id n)) (owner_first (name_row b.content.id m)) ≡ false) (unique_names b.content) n (All-from_recursion _ _ (under b.content.id (λ y. is_shared (owner_first (name_row a.content.id n)) y ≡ false) (unique_names b.content) one)) in_b in
-    let c : true ≡ false = sym (ap is_eq (tied_itself value_cmp_total (Text n.text))) ∙ two in cc)
+    let c : true ≡ false = sym (λ i. is_eq (tied_itself value_cmp_total (Text (attribute_name n.leaf.attribute)) i) && is_eq (tied_itself value_cmp_total (Text n.text) i)) ∙ two in cc)
   where
     under : (id : List ℕ) (P : Row → Type 0) (ns : List Name) → AllByRecursion P (map owner_first (map (name_row id) ns)) → AllByRecursion (λ m. P (owner_first (name_row id m))) ns
     under id P [] h = tt
@@ -201,11 +210,11 @@ keyed_all (e ∷ es) rising distinct =
 -- ---- all rows
 
 -- where each row is of one of some ids, the rows of each id hold and no two rows have one name, all are those of resources
-pub whole : (base : List ℕ) (tables : Tables) (ks : List (List ℕ)) → IsStrictlySortedBy (slice_cmp nat_cmp) ks → All IsId ks → All (AreOwned ks) tables.resources → All (AreOwned ks) tables.names → All (AreOwned ks) tables.members
-    → ((id : List ℕ) → IsId id → HoldsAt base tables id) → IsDistinct is_shared tables.names → AreSound base tables
-whole base tables ks up are r n m holds distinct =
+pub whole : (version : Version) (base : List ℕ) (tables : Tables) (ks : List (List ℕ)) → IsStrictlySortedBy (slice_cmp nat_cmp) ks → All IsId ks → All (AreOwned ks) tables.resources → All (AreOwned ks) tables.names → All (AreOwned ks) tables.members → All (AreOwned ks) tables.secrets
+    → ((id : List ℕ) → IsId id → HoldsAt version base tables id) → IsDistinct is_shared tables.names → AreSound version base tables
+whole version base tables ks up are r n m s holds distinct =
     (let ids = recursion_from_All IsId ks are in
-    let all = collected base tables ks up ids holds in
+    let all = collected version base tables ks up ids holds in
     let names : IsPermutation tables.names (map owner_first (flat_map name_rows all.entries)) = IsPermutation-trans _ _ _ (grouped ks up ids tables.names n) all.names in (
       all.entries,
       record {
@@ -214,5 +223,6 @@ whole base tables ks up are r n m holds distinct =
         resources = IsPermutation-trans _ _ _ (grouped ks up ids tables.resources r) all.resources;
         names = names;
         members = IsPermutation-trans _ _ _ (grouped ks up ids tables.members m) all.members;
+        secrets = IsPermutation-trans _ _ _ (grouped ks up ids tables.secrets s) all.secrets;
       },
     ))

@@ -9,7 +9,7 @@ use Rattle.scim_store_rows.specs.Stands.{StandsFor}
 abbrev pub no_store : Store
 no_store = record { resources = []; audit = [] }
 
--- A database without tables, indexes and views becomes a database with the five tables, which hold an empty
+-- A database without tables, indexes and views becomes a database with the six tables, which hold an empty
 -- store.
 abbrev pub Begins : Database → Database → Type 0
 Begins old new = old.schema ≡ no_schema → (base : List ℕ) → StandsFor base new no_store

@@ -1,5 +1,5 @@
 -- The edits that a change makes to the rows of the tables.
-use Rattle.std.specs.Prelude.{◌≡◌, ◌≢◌, ℕ, ◌+◌, Bool, false, ◌&&◌, not, List, [], ◌∷◌, ◌++◌, length, map, filter, AllPairs, Option, None, Some, string_bytes, ⊤}
+use Rattle.std.specs.Prelude.{◌≡◌, ◌≢◌, ℕ, ◌+◌, Bool, true, false, ◌&&◌, not, List, [], ◌∷◌, ◌++◌, length, map, filter, AllPairs, Option, None, Some, string_bytes, ⊤}
 use Rattle.std.specs.Option.{option_map, option_to_list}
 use Rattle.std.specs.List.{list_any}
 use Rattle.sqlite.specs.Order.{Row}
@@ -11,15 +11,17 @@ use Rattle.scim_value.specs.declared.uniqueness.UniqueName.{UniqueName}
 use Rattle.scim_value.specs.Members.{lists_value}
 use Rattle.scim_value.specs.Resource.{HasBase}
 use Rattle.scim_value.specs.Uniqueness.{Name, name_of, unique_names}
-use Rattle.scim_json.specs.Stored.{IsDocumentText}
+use Rattle.scim_json.specs.Kept.{IsKept, door_code}
 use Rattle.scim_audit.specs.declared.audit_rows.AuditRow.{AuditRow}
 use Rattle.scim_shelf.specs.declared.changes.Change.{Change}
 use Rattle.scim_shelf.specs.declared.changes.Change.TheVariants.{Nothing, Keep, Remove}
 use Rattle.scim_shelf.specs.Stores.{Store, CanKeep, after, is_same_name, of_id}
-use Rattle.scim_store_tables.specs.Lists.{Lists, without, has_text, has_texts, resource_values, name_values, member_values}
+use Rattle.scim_store_tables.specs.Lists.{Lists, without, has_text, has_texts, resource_values, name_values, member_values, secret_values}
 use Rattle.scim_store_tables.specs.Audit.{audit_values}
 use Rattle.scim_store_tables.specs.declared.audit.AuditColumns.{AuditColumns}
 use Rattle.scim_store.specs.declared.edits.Edits.{Edits}
+use Rattle.scim_store.specs.declared.edits.SecretEdit.{SecretEdit}
+use Rattle.scim_store.specs.declared.edits.SecretEdit.TheVariants.{Stays, Goes, Comes, Becomes}
 use Rattle.scim_store_rows.specs.Audit.{kind_number, audit_row}
 use Rattle.scim_store_rows.specs.Stands.{StandsFor, is_among}
 
@@ -39,6 +41,26 @@ rows_of_names id names = map (λ n. name_values (attribute_name n.leaf.attribute
 abbrev pub rows_of_members : List ℕ → List (List ℕ) → List Row
 rows_of_members group_id values = map (λ v. member_values v group_id) values
 
+-- Whether an edit removes the row of the old door code.
+abbrev pub removes_code : SecretEdit → Bool
+removes_code Goes = true
+removes_code (Becomes code) = true
+removes_code _ = false
+
+-- The door code that an edit adds a row of, if any.
+abbrev pub new_code : SecretEdit → Option (List ℕ)
+new_code (Comes code) = Some (string_bytes code)
+new_code (Becomes code) = Some (string_bytes code)
+new_code _ = None
+
+-- Whether a row in `secret` has the id of the user, and the edit removes it.
+abbrev pub is_secret : List ℕ → SecretEdit → Row → Bool
+is_secret id edit row = removes_code edit && has_text 0 id row
+
+-- The row of the new door code, if any, with the id of the user who has it.
+abbrev pub rows_of_secret : List ℕ → SecretEdit → List Row
+rows_of_secret id edit = option_to_list (option_map (secret_values id) (new_code edit))
+
 -- The row of the new document, if any.
 abbrev pub rows_of_document : Edits → List Row
 rows_of_document e = option_to_list (option_map (λ d. resource_values e.id (kind_number e.kind) (string_bytes d)) e.document)
@@ -49,6 +71,7 @@ edited e lists = record lists {
   resources = rows_of_document e ++ without (has_text 0 e.id) lists.resources;
   taken = rows_of_names e.id e.names_come.items ++ without (is_name e.names_gone.items) lists.taken;
   member = rows_of_members e.id e.members_come.items ++ without (is_member e.id e.members_gone.items) lists.member;
+  secret = rows_of_secret e.id e.secret ++ without (is_secret e.id e.secret) lists.secret;
 }
 
 -- The rows after the edits, if any.
@@ -74,15 +97,27 @@ abbrev pub lists_in : List ℕ → Option Content → Bool
 lists_in value None = false
 lists_in value (Some c) = lists_value value c
 
--- The edits have the kind and a valid document of the resource `c`. If there is no resource, the edits have
--- no document.
+-- The door code of a resource, if any.
+abbrev pub code_in : Option Content → Option (List ℕ)
+code_in None = None
+code_in (Some c) = door_code c
+
+-- The edit turns the old door code, if any, into the new one, if any. It changes rows only if they differ.
+abbrev pub TurnsCode : Option (List ℕ) → Option (List ℕ) → SecretEdit → Type 0
+TurnsCode old new Stays = new ≡ old
+TurnsCode old new Goes = (old ≢ None) × (new ≡ None)
+TurnsCode old new (Comes code) = (old ≡ None) × (new ≡ Some (string_bytes code))
+TurnsCode old new (Becomes code) = (old ≢ None) × (new ≡ Some (string_bytes code)) × (new ≢ old)
+
+-- The edits have the kind of the resource `c` and a valid document of it without its door code. If there is no
+-- resource, the edits have no document.
 abbrev pub IsWritten : List ℕ → Option Content → Edits → Type 0
 IsWritten base None e = e.document ≡ None
-IsWritten base (Some c) e = (e.kind ≡ c.kind) × (text : List ℕ) × (option_map string_bytes e.document ≡ Some text) × IsDocumentText base text c
+IsWritten base (Some c) e = (e.kind ≡ c.kind) × (text : List ℕ) × (option_map string_bytes e.document ≡ Some text) × IsKept base text (door_code c) c
 
 -- The edits replace the rows of the old resource with this id, if any, by the rows of the new resource, if
 -- any. The edits remove the names and member values that only the old resource has, and add the names and
--- member values that only the new resource has, each value once.
+-- member values that only the new resource has, each value once. They turn the old door code into the new one.
 pub record Replaces (base : List ℕ) (id : List ℕ) (old new : Option Content) (e : Edits) : Type 0 where
   pub is_id : IsId id
   pub text : e.id ≡ id_text id
@@ -91,6 +126,7 @@ pub record Replaces (base : List ℕ) (id : List ℕ) (old new : Option Content)
   pub members_gone : (value : List ℕ) → is_among value e.members_gone.items ≡ (lists_in value old && not (lists_in value new))
   pub members_come : (value : List ℕ) → is_among value e.members_come.items ≡ (lists_in value new && not (lists_in value old))
   pub once : AllPairs (λ v w. v ≢ w) e.members_come.items
+  pub secret : TurnsCode (code_in old) (code_in new) e.secret
   pub document : IsWritten base new e
 
 -- The edits make the change to the resources `cs`.

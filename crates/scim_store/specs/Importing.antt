@@ -32,7 +32,7 @@ pub record HoldRowsOf (base : List ℕ) (cs : List Content) (db : Database) : Ty
 abbrev pub HoldUsers : List ℕ → List ℕ → Database → Type 0
 HoldUsers base users db = (cs : List Content) × IsDocumentsText base users cs × HoldRowsOf base cs db
 
--- A database without tables, indexes and views becomes a database with the five tables, which hold the rows
+-- A database without tables, indexes and views becomes a database with the six tables, which hold the rows
 -- of the resources of the users file.
 abbrev pub Fills : List ℕ → List ℕ → Database → Database → Type 0
 Fills base users old new = old.schema ≡ no_schema → HoldUsers base users new

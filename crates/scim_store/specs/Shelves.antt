@@ -8,7 +8,8 @@ use Rattle.scim_audit.specs.declared.audit_rows.AuditRow.{AuditRow}
 use Rattle.scim_shelf.specs.declared.changes.Change.{Change}
 use Rattle.scim_shelf.specs.Stores.{Store, CanKeep, IsOld, after}
 use Rattle.scim_store_tables.specs.Steps.{Leaves}
-use Rattle.scim_store_tables.specs.Tables.{no_schema}
+use Rattle.scim_store_tables.specs.Tables.{no_schema, old_schema}
+use Rattle.scim_store_tables.specs.declared.versions.Version.{Version}
 use Rattle.scim_store.specs.declared.examining.Examined.TheVariants.{WrongVersion as OtherVersion, Damaged as DamagedAt, Foreign}
 use Rattle.scim_store.specs.declared.sql_shelf.OpenFault.{OpenFault}
 use Rattle.scim_store.specs.declared.sql_shelf.OpenFault.TheVariants.{WrongVersion, Damaged, Store as NoStore, Device, NoMemory}
@@ -16,7 +17,7 @@ use Rattle.scim_store.specs.Beginning.{no_store}
 use Rattle.scim_store.specs.Committing.{HasStore, AreOf, Changes}
 use Rattle.scim_store.specs.Opening.{IsFor}
 use Rattle.scim_store_rows.specs.AuditBack.{IsSound}
-use Rattle.scim_store_rows.specs.Stands.{StandsFor}
+use Rattle.scim_store_rows.specs.Stands.{StandsForIn, StandsForOld, StandsFor}
 
 -- If the disk returned what was written, the tables hold the store. The audit of the store has `rows` rows.
 pub record IsKeptIn (base : List ℕ) (s : State) (rows : ℕ) (store : Store) : Type 0 where
@@ -40,9 +41,9 @@ pub record CommitsWhole {T E : Type 0} (base : List ℕ) (change : Change) (row 
   pub durable : HasCleanDisk new → OnOk result ((store : Store) → May store → (trees : Trees) → new.may_leave trees → AreOf base (after change row store) trees)
 
 -- The store of an opened database: an empty store if the database was empty, and otherwise the store that its
--- tables hold, with valid audit rows.
+-- tables of version 1 or 2 hold, with valid audit rows.
 abbrev pub Opens : List ℕ → Database → Store → Type 0
-Opens base db store = ((db.schema ≡ no_schema) × (store ≡ no_store)) ⊎ (StandsFor base db store × All IsSound store.audit)
+Opens base db store = ((db.schema ≡ no_schema) × (store ≡ no_store)) ⊎ ((version : Version) × StandsForIn version base db store × All IsSound store.audit)
 
 -- A database is opened as this store, `rows` is the number of its audit rows, and its connection is open.
 pub record HasOpened (base : List ℕ) (db : Database) (s : State) (rows : ℕ) (store : Store) : Type 0 where
@@ -59,7 +60,16 @@ Refuses base db NoStore = IsFor base db Foreign
 Refuses base db Device = ⊤
 Refuses base db NoMemory = ⊤
 
--- The tables that a crash may leave because of opening a database. If the database was empty, these are the
--- tables of an empty store; otherwise there are none.
+-- A crash may leave the tables of an empty store, if the database was empty.
+abbrev pub LeavesNew : List ℕ → State → Trees → Type 0
+LeavesNew base s trees = (s.now.schema ≡ no_schema) × ((db : Database) × (trees ≡ db.trees) × (IsTrue s.is_open → StandsFor base db no_store))
+
+-- A crash may leave the tables of version 2 with the store of the tables of version 1, if the database had
+-- these.
+abbrev pub LeavesMigrated : List ℕ → State → Trees → Type 0
+LeavesMigrated base s trees = (s.now.schema ≡ old_schema) × ((db : Database) × (trees ≡ db.trees) × (IsTrue s.is_open → (store : Store) → StandsForOld base s.now store → StandsFor base db store))
+
+-- The tables that a crash may leave because of opening a database: those of an empty store if the database was
+-- empty, the migrated ones if it had the tables of version 1, and otherwise none.
 abbrev pub LeavesBegun : List ℕ → State → Trees → Type 0
-LeavesBegun base s trees = (s.now.schema ≡ no_schema) × ((db : Database) × (trees ≡ db.trees) × (IsTrue s.is_open → StandsFor base db no_store))
+LeavesBegun base s trees = LeavesNew base s trees ⊎ LeavesMigrated base s trees

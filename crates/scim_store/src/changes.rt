@@ -1,6 +1,6 @@
 //! Computes the edits of a change.
 
-ghost use Rattle.std.specs.Prelude.{◌≡◌, ◌≢◌, ◌&&◌, not, ℕ, List, AllPairs, IfOk, Some, map};
+ghost use Rattle.std.specs.Prelude.{◌≡◌, ◌≢◌, ◌&&◌, not, ℕ, List, AllPairs, IfOk, Some, map, option_map, string_bytes};
 ghost use Rattle.std.specs.Option.{option_copied};
 ghost use Rattle.scim_cell.specs.Content.{Content};
 ghost use Rattle.scim_value.specs.Members.{lists_value};
@@ -11,9 +11,9 @@ ghost use Rattle.scim_shelf.specs.Stores.{IsOld};
 ghost use Rattle.scim_store_rows.specs.Stands.{is_among};
 ghost use Rattle.scim_store.specs.Edits as spec;
 
-use crate::edits::Edits;
+use crate::edits::{Edits, SecretEdit};
 use scim_cell::{Id, Text};
-use scim_json::stored_text;
+use scim_json::{door_code_of, kept_parts};
 use scim_schema::{Attribute, Kind, Unit};
 use scim_shelf::{Change, member_values};
 use scim_text::{NoMemory, push};
@@ -86,19 +86,50 @@ fn values_beyond<'v>(
     Ok(beyond)
 }
 
-/// Returns the edits that replace the rows of the resource `old` by the rows of `new`. Without `old`, they
-/// only add rows; without `new`, they only remove rows.
+/// Returns the door code of the resource; `None` if there is no resource or it has none.
+fn code_in(resource: Option<&Resource>) -> Option<&str>
+    ensures { option_map (λ code. code.now) result
+        ≡ spec.code_in (option_copied resource.entry) }
+{
+    match resource {
+        Some(resource) => door_code_of(resource),
+        None => None,
+    }
+}
+
+/// Returns the edit that turns the door code `old` into `new`. `None` is no door code.
+fn secret_edit(old: Option<&str>, new: Option<String>) -> SecretEdit
+    ensures { spec.TurnsCode (option_map (λ code. code.now) old.entry) (option_map string_bytes new)
+        result }
+{
+    match new {
+        None => match old {
+            None => SecretEdit::Stays,
+            Some(_) => SecretEdit::Goes,
+        },
+        Some(new) => match old {
+            None => SecretEdit::Comes(new),
+            Some(old) if old == new.as_str() => SecretEdit::Stays,
+            Some(_) => SecretEdit::Becomes(new),
+        },
+    }
+}
+
+/// Returns the edits that replace the rows of the resource `old` by the rows of `new`, which has this document
+/// and door code. Without `old`, they only add rows; without `new`, they only remove rows.
 fn replacement<'r>(
     alloc: Global,
     id: Id,
     kind: Kind,
     document: Option<String>,
+    door_code: Option<String>,
     old: Option<&'r Resource>,
     new: Option<&'r Resource>,
 ) -> Result<Edits, NoMemory>
     ensures kind { IfOk result (λ edits. edits.kind ≡ kind) }
     ensures document { IfOk result (λ edits. edits.document ≡ document) }
     ensures replaces { IfOk result (λ edits. (base : List ℕ)
+        → option_map string_bytes door_code ≡ spec.code_in (option_copied new.entry)
         → spec.IsWritten base (option_copied new.entry) edits
         → spec.Replaces base id (option_copied old.entry) (option_copied new.entry) edits) }
 {
@@ -112,6 +143,7 @@ fn replacement<'r>(
         names_come: names_beyond(alloc, old, new)?,
         members_gone: values_beyond(alloc, &new_values, &old_values)?,
         members_come: values_beyond(alloc, &old_values, &new_values)?,
+        secret: secret_edit(code_in(old), door_code),
     })
 }
 
@@ -124,9 +156,17 @@ pub(crate) fn edits_to_keep(
     ensures { IfOk result (λ edits. (base : List ℕ) → HasBase base resource.now
         → spec.Replaces base resource.now.id (option_copied old.entry) (Some resource.now) edits) }
 {
-    let document = Some(stored_text(alloc, resource)?);
+    let (document, door_code) = kept_parts(alloc, resource)?;
     let part = resource.part();
-    replacement(alloc, part.id(), part.kind(), document, old, Some(resource))
+    replacement(
+        alloc,
+        part.id(),
+        part.kind(),
+        Some(document),
+        door_code,
+        old,
+        Some(resource),
+    )
 }
 
 /// Returns the edits of a change; `None` for `Change::Nothing`. `old` must be the stored user or group that
@@ -147,7 +187,7 @@ pub(crate) fn edits_of(
             Ok(Some(edits))
         }
         Change::Remove(kind, id) => {
-            let edits = replacement(alloc, *id, *kind, None, old, None)?;
+            let edits = replacement(alloc, *id, *kind, None, None, old, None)?;
             Ok(Some(edits))
         }
     }

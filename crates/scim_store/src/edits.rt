@@ -4,13 +4,35 @@ use scim_cell::Text;
 use scim_schema::Kind;
 use scim_value::UniqueName;
 
+/// What happens to the row of a user's door code.
+pub(crate) enum SecretEdit {
+    /// There is no row, or the row stays.
+    Stays,
+    /// The row is removed.
+    Goes,
+    /// A row with this door code is added. There was none.
+    Comes(String),
+    /// The row is replaced by one with this door code.
+    Becomes(String),
+}
+
+impl Drop for SecretEdit {
+    fn drop(self) {
+        match self {
+            SecretEdit::Stays | SecretEdit::Goes => (),
+            SecretEdit::Comes(_code) => (),
+            SecretEdit::Becomes(_code) => (),
+        }
+    }
+}
+
 /// The rows that the change of one resource removes from the tables and adds to them.
 pub(crate) struct Edits {
     /// The text of the resource's id.
     pub id: Text,
     /// The resource's kind.
     pub kind: Kind,
-    /// The new document; `None` if the resource is removed.
+    /// The new document, without the door code; `None` if the resource is removed.
     pub document: Option<String>,
     /// The unique names to remove, which only the old resource has.
     pub names_gone: Vec<UniqueName>,
@@ -20,6 +42,8 @@ pub(crate) struct Edits {
     pub members_gone: Vec<Text>,
     /// The member values to add, which only the new resource lists, each once.
     pub members_come: Vec<Text>,
+    /// What happens to the door code.
+    pub secret: SecretEdit,
 }
 
 impl Drop for Edits {
@@ -32,6 +56,7 @@ impl Drop for Edits {
             names_come: _names_come,
             members_gone: _members_gone,
             members_come: _members_come,
+            secret: _secret,
         } = self;
     }
 }

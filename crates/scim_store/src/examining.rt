@@ -8,7 +8,7 @@ ghost use Rattle.sqlite.specs.State.{HasCleanDisk, Survives};
 ghost use Rattle.sqlite.specs.View.{doubt};
 ghost use Rattle.sqlite.specs.Held.{state};
 ghost use Rattle.scim_shelf.specs.Caches.{HasCached};
-ghost use Rattle.scim_store_tables.specs.Reading.{Rests, Spares, HasTables, shown};
+ghost use Rattle.scim_store_tables.specs.Reading.{Rests, SparesIn, HasTablesIn, shown_in};
 ghost use Rattle.scim_store_tables.specs.Whole.{AreRowsOf, Is};
 ghost use Rattle.scim_store_tables.specs.declared.database_kinds.DatabaseKind.{DatabaseKind};
 ghost use Rattle.scim_store.specs.Damage.{AreOrdered, Judges};
@@ -19,7 +19,7 @@ use crate::passing::show_sound;
 use scim_cell::Id;
 use scim_shelf::CacheContents;
 use scim_store_rows::count_audit;
-use scim_store_tables::{DatabaseKind, TableRows, read_tables};
+use scim_store_tables::{DatabaseKind, TableRows, Version, read_tables};
 use scim_text::NoMemory;
 use sqlite::{Alter, Connection, Error, ErrorCode};
 use std::alloc::Global;
@@ -29,15 +29,15 @@ use std::alloc::Global;
 pub(crate) enum Examined {
     /// It has no table, index or view.
     Empty,
-    /// Its tables hold a valid store, whose audit has this many rows.
-    Stands(u64),
-    /// Its tables are of another version.
+    /// Its tables of this version hold a valid store, whose audit has this many rows.
+    Stands(Version, u64),
+    /// Its tables are of another version than 1 and 2.
     WrongVersion,
     /// Its tables don't hold a valid store: this is the least id that has rows, but not exactly the rows of
     /// one valid resource.
     Damaged(Id),
-    /// Its tables don't hold a valid store, although the rows of each id are valid; or it belongs to another
-    /// program.
+    /// Its tables don't hold a valid store, although the rows of each id are valid; or it doesn't have the
+    /// tables of the version that it names; or it belongs to another program.
     Foreign,
 }
 
@@ -49,96 +49,117 @@ fn resource_rows(rows: TableRows) -> ResourceRows
         resources,
         names,
         members,
+        secrets,
     } = rows;
     ResourceRows {
         resources,
         names,
         members,
+        secrets,
     }
 }
 
-/// Tests the rows of resources. Fails only with `OutOfMemory`, if memory runs out.
-fn judge_rows(alloc: Global, base: &str, tables: &ResourceRows) -> Result<Judged, Error>
-    ensures judged { AreOrdered tables.now → IfOk result (Judges base.now tables.now) }
+/// Tests the rows of resources of the tables of a version. Fails only with `OutOfMemory`, if memory runs out.
+fn judge_rows(
+    alloc: Global,
+    version: Version,
+    base: &str,
+    tables: &ResourceRows,
+) -> Result<Judged, Error>
+    ensures judged { AreOrdered tables.now
+        → IfOk result (Judges version base.now tables.now) }
     ensures memory { IfErr result (λ e. e ≡ Error.SqliteFailure ErrorCode.OutOfMemory) }
 {
-    match judge(alloc, base, tables) {
+    match judge(alloc, version, base, tables) {
         Ok(judged) => Ok(judged),
         Err(NoMemory) => Err(Error::SqliteFailure(ErrorCode::OutOfMemory)),
     }
 }
 
-/// Tests the rows of resources, and frees them. If they are valid, `contents` copies the resources; if it
-/// can't copy them in the same pass, it copies nothing. Fails only with `OutOfMemory`, if memory runs out.
+/// Tests the rows of resources of the tables of a version, and frees them. If they are valid, `contents`
+/// copies the resources; if it can't copy them in the same pass, it copies nothing. Fails only with
+/// `OutOfMemory`, if memory runs out.
 fn judge_and_copy(
     alloc: Global,
+    version: Version,
     base: &str,
     rows: TableRows,
     contents: &mut CacheContents,
 ) -> Result<Judged, Error>
     ensures judged { AreOrdered (spec.resource_tables rows)
-        → IfOk result (Judges base.now (spec.resource_tables rows)) }
+        → IfOk result (Judges version base.now (spec.resource_tables rows)) }
     ensures copied { HasCached [] contents.old → OnOk result ((db : Database)
-        → AreRowsOf (shown db) rows → spec.HasCopied base.now db contents.new) }
+        → AreRowsOf (shown_in version db) rows
+        → spec.HasCopied version base.now db contents.new) }
     ensures memory { IfErr result (λ e. e ≡ Error.SqliteFailure ErrorCode.OutOfMemory) }
 {
     let tables = resource_rows(rows);
-    match show_sound(alloc, base, &tables, contents) {
+    match show_sound(alloc, version, base, &tables, contents) {
         Ok(true) => Ok(Judged::Sound),
         Ok(false) => {
             *contents = CacheContents::none();
-            judge_rows(alloc, base, &tables)
+            judge_rows(alloc, version, base, &tables)
         }
         Err(NoMemory) => Err(Error::SqliteFailure(ErrorCode::OutOfMemory)),
     }
 }
 
-/// Returns the result for tables with valid rows of resources and this number of audit rows, `None` if the
-/// audit rows aren't valid.
-fn of_count(count: Option<u64>) -> Examined
-    ensures { result ≡ spec.by_count count }
+/// Returns the result for tables of a version with valid rows of resources and this number of audit rows,
+/// `None` if the audit rows aren't valid.
+fn of_count(version: Version, count: Option<u64>) -> Examined
+    ensures { result ≡ spec.by_count version count }
 {
     match count {
-        Some(count) => Examined::Stands(count),
+        Some(count) => Examined::Stands(version, count),
         None => Examined::Foreign,
     }
 }
 
-/// Examines the tables whose rows of resources these are: first these rows, and if they are valid the audit
-/// rows, one at a time. `contents` copies the resources of a valid store, or nothing. Fails with the database's error, or with `OutOfMemory` if memory runs out.
+/// Examines the tables of a version whose rows of resources these are: first these rows, and if they are valid
+/// the audit rows, one at a time. `contents` copies the resources of a valid store, or nothing. Fails with the
+/// database's error, or with `OutOfMemory` if memory runs out.
 fn examine_rows<S: Alter>(
     conn: &mut Connection<S>,
     alloc: Global,
+    version: Version,
     base: &str,
     rows: TableRows,
     contents: &mut CacheContents,
 ) -> Result<Examined, Error>
     ensures mode { conn.old.in_transaction ≡ false → conn.new.in_transaction ≡ false }
-    ensures spares { Spares (state S.Store conn.old) (state S.Store conn.new) }
-    ensures examined { HasCleanDisk (state S.Store conn.new) → HasTables (state S.Store conn.old)
-        → IfOk result (spec.ExaminesRows base.now rows
+    ensures spares { SparesIn version (state S.Store conn.old) (state S.Store conn.new) }
+    ensures examined { HasCleanDisk (state S.Store conn.new)
+        → HasTablesIn version (state S.Store conn.old)
+        → IfOk result (spec.ExaminesRows version base.now rows
         (state S.Store conn.old) (state S.Store conn.new)) }
-    ensures rests { HasCleanDisk (state S.Store conn.new) → HasTables (state S.Store conn.old)
+    ensures rests { HasCleanDisk (state S.Store conn.new)
+        → HasTablesIn version (state S.Store conn.old)
         → OnErr result (Rests (state S.Store conn.old) (state S.Store conn.new)) }
     ensures copied { HasCached [] contents.old → OnOk result ((db : Database)
-        → AreRowsOf (shown db) rows → spec.HasCopied base.now db contents.new) }
+        → AreRowsOf (shown_in version db) rows
+        → spec.HasCopied version base.now db contents.new) }
 {
-    match judge_and_copy(alloc, base, rows, contents)? {
-        Judged::Sound => Ok(of_count(count_audit(conn, alloc)?)),
+    match judge_and_copy(alloc, version, base, rows, contents)? {
+        Judged::Sound => Ok(of_count(version, count_audit(conn, alloc)?)),
         Judged::Damaged(id) => Ok(Examined::Damaged(id)),
         Judged::Foreign => Ok(Examined::Foreign),
     }
 }
 
-/// Examines the rows of tables with further rows of `setting`. Returns the least id with invalid rows, or
-/// `Foreign` if the rows of each id are valid. Fails only with `OutOfMemory`, if memory runs out.
-fn examine_altered(alloc: Global, base: &str, rows: TableRows) -> Result<Examined, Error>
-    ensures examined { IfOk result (λ it. (db : Database) → Is db (DatabaseKind.Altered rows)
-        → spec.IsFor base.now db it) }
+/// Examines the rows of tables of a version with further rows of `setting`. Returns the least id with invalid
+/// rows, or `Foreign` if the rows of each id are valid. Fails only with `OutOfMemory`, if memory runs out.
+fn examine_altered(
+    alloc: Global,
+    version: Version,
+    base: &str,
+    rows: TableRows,
+) -> Result<Examined, Error>
+    ensures examined { IfOk result (λ it. (db : Database)
+        → Is db (DatabaseKind.Altered version rows) → spec.IsFor base.now db it) }
     ensures memory { IfErr result (λ e. e ≡ Error.SqliteFailure ErrorCode.OutOfMemory) }
 {
     let tables = resource_rows(rows);
-    Ok(of_altered(judge_rows(alloc, base, &tables)?))
+    Ok(of_altered(judge_rows(alloc, version, base, &tables)?))
 }
 
 /// Returns the result for tables with further rows of `setting`, whose rows of resources have this result.
@@ -177,11 +198,13 @@ pub(crate) fn examine<S: Alter>(
     ensures rests { HasCleanDisk (state S.Store conn.new)
         → OnErr result (Rests (state S.Store conn.old) (state S.Store conn.new)) }
 {
-    match read_tables(conn)? {
+    match read_tables(conn, alloc)? {
         DatabaseKind::Empty => Ok(Examined::Empty),
         DatabaseKind::WrongVersion => Ok(Examined::WrongVersion),
         DatabaseKind::Foreign => Ok(Examined::Foreign),
-        DatabaseKind::Altered(rows) => examine_altered(alloc, base, rows),
-        DatabaseKind::Tables(rows) => examine_rows(conn, alloc, base, rows, contents),
+        DatabaseKind::Altered(version, rows) => examine_altered(alloc, version, base, rows),
+        DatabaseKind::Tables(version, rows) => {
+            examine_rows(conn, alloc, version, base, rows, contents)
+        }
     }
 }

@@ -76,7 +76,8 @@ impl From<NoMemory> for ImportFault {
     }
 }
 
-/// Inserts the rows of a resource that isn't stored: its document, its unique names and its members.
+/// Inserts the rows of a resource that isn't stored: its document, its unique names, its members and its door
+/// code.
 fn insert_rows<S: Alter>(
     tx: &mut Transaction<'_, S>,
     alloc: Global,

@@ -19,7 +19,8 @@ ghost use Rattle.scim_store_rows.specs.Auditing.{AreRowsFrom};
 ghost use Rattle.scim_store.specs.declared.committing.CommitFault.{CommitFault};
 ghost use Rattle.scim_store_tables.specs.Reading.{Rests, Spares};
 ghost use Rattle.scim_store_tables.specs.Tables.{no_schema};
-ghost use Rattle.scim_store_tables.specs.Steps.{Leaves};
+ghost use Rattle.scim_store_tables.specs.Steps.{Became, Leaves};
+ghost use Rattle.scim_store_tables.specs.Migrating.{Migrates};
 ghost use Rattle.scim_store.specs.Beginning.{no_store, Begins};
 ghost use Rattle.scim_store_rows.specs.Finding.{StandsIn};
 ghost use Rattle.scim_store.specs.Shelves.{IsKeptIn, MayMake, MayMakeOver, CommitsWhole, HasOpened, Refuses, LeavesBegun};
@@ -34,6 +35,7 @@ use scim_shelf::{CacheContents, Change, Shelf, ShelfFault, Visitor, show_all};
 use scim_store_rows::{
     LAST_NUMBER, find_by_id, find_groups_with, find_owner_of_name, read_audit_rows, walk,
 };
+use scim_store_tables::{Version, migrate};
 use scim_text::Failed;
 use scim_value::{Resource, UniqueName};
 use sqlite::{Alter, Connection, Error, ErrorCode};
@@ -57,13 +59,13 @@ pub struct SqlShelf<S: Alter> {
 /// A reason why a database can't be opened.
 #[derive(Clone, Copy, PartialEq, Eq)]
 pub enum OpenFault {
-    /// Its tables are of another version.
+    /// Its tables are of another version than 1 and 2.
     WrongVersion,
     /// Its tables don't hold a valid store: this is the least id that has rows, but not exactly the rows of
     /// one valid resource.
     Damaged(Id),
-    /// It belongs to another program, or its tables don't hold a valid store although the rows of each id are
-    /// valid.
+    /// It belongs to another program, or it doesn't have the tables of the version that it names, or its tables
+    /// don't hold a valid store although the rows of each id are valid.
     Store,
     /// It can't be read or written, or the connection is in a transaction.
     Device,
@@ -84,24 +86,40 @@ fn open_fault_of(error: &Error) -> OpenFault
 impl<S: Alter> SqlShelf<S> {
     ghost use Rattle.scim_store.specs.SqlShelves.{connection_of, base_of, rows_of};
 
-    /// Returns a shelf over the tables of a connection, whose audit has `rows` rows. Fails with `Device` if
-    /// there are more than `LAST_NUMBER` rows or the connection is in a transaction, and with `NoMemory` if
-    /// memory runs out. An error contains the connection, unchanged.
+    /// Returns a shelf with this connection, base URI and number of audit rows. The device hasn't failed yet.
+    fn of_parts(connection: Connection<S>, base: Text, rows: u64) -> SqlShelf<S>
+        requires idle { connection.in_transaction ≡ false }
+        requires bounded { rows ≤ last_number }
+        ensures connection { result.connection ≡ connection }
+        ensures base { result.base ≡ base }
+        ensures rows { result.rows ≡ rows }
+        ensures failures { result.failures ≡ 0 }
+    {
+        SqlShelf {
+            connection,
+            base,
+            rows,
+            failures: 0,
+        }
+    }
+
+    /// Returns a shelf over the tables of version 2 of a connection, whose audit has `rows` rows. Fails with
+    /// `Device` if there are more than `LAST_NUMBER` rows or the connection is in a transaction. An error
+    /// contains the connection, unchanged.
     fn over(
-        alloc: Global,
         connection: Connection<S>,
-        base: &str,
+        base: Text,
         rows: u64,
     ) -> Result<SqlShelf<S>, (OpenFault, Connection<S>)>
         requires { connection.in_transaction ≡ false }
-        ensures base { IfOk result (λ shelf. shelf.base ≡ base.now) }
+        ensures base { IfOk result (λ shelf. shelf.base ≡ base) }
         ensures same { IfOk result (λ shelf. shelf.connection ≡ connection) }
         ensures count { IfOk result (λ shelf. shelf.failures ≡ 0) }
         ensures kept { IfOk result (λ shelf. HasCleanDisk (state S.Store shelf.connection)
             → HasCleanDisk (state S.Store connection)
-            × ((store : Store) → StandsIn base.now (state S.Store connection) store
+            × ((store : Store) → StandsIn base (state S.Store connection) store
             → length store.audit ≡ rows
-            → IsKeptIn base.now (state S.Store shelf.connection) shelf.rows store)) }
+            → IsKeptIn base (state S.Store shelf.connection) shelf.rows store)) }
         ensures refused { IfErr result (λ e. (base : List ℕ) (db : Database)
             → Refuses base db e.0) }
         ensures given_back { IfErr result (λ e. e.1 ≡ connection) }
@@ -109,32 +127,23 @@ impl<S: Alter> SqlShelf<S> {
         if rows > LAST_NUMBER || !connection.is_autocommit() {
             return Err((OpenFault::Device, connection));
         }
-        match Text::copy_of(alloc, base) {
-            Ok(base) => Ok(SqlShelf {
-                connection,
-                base,
-                rows,
-                failures: 0,
-            }),
-            Err(_) => Err((OpenFault::NoMemory, connection)),
-        }
+        Ok(SqlShelf::of_parts(connection, base, rows))
     }
 
     /// Creates the tables in an empty database, in one transaction, and returns a shelf over them. Fails with
-    /// `Device` if the device failed or the connection is in a transaction, and with `NoMemory` if memory
-    /// runs out. An error contains the connection.
+    /// `Device` if the device failed, and with `NoMemory` if memory runs out. An error contains the
+    /// connection: it is closed, or its database is unchanged.
     fn begin(
-        alloc: Global,
         connection: Connection<S>,
-        base: &str,
+        base: Text,
     ) -> Result<SqlShelf<S>, (OpenFault, Connection<S>)>
         requires { connection.in_transaction ≡ false }
         ensures kept { IfOk result (λ shelf. HasCleanDisk (state S.Store shelf.connection)
             → HasCleanDisk (state S.Store connection) × IsTrue (state S.Store connection).is_open
             × IsTrue (state S.Store shelf.connection).is_open
             × ((state S.Store connection).now.schema ≡ no_schema
-            → IsKeptIn base.now (state S.Store shelf.connection) shelf.rows no_store)) }
-        ensures base { IfOk result (λ shelf. shelf.base ≡ base.now) }
+            → IsKeptIn base (state S.Store shelf.connection) shelf.rows no_store)) }
+        ensures base { IfOk result (λ shelf. shelf.base ≡ base) }
         ensures count { IfOk result (λ shelf. shelf.failures ≡ 0) }
         ensures refused { IfErr result (λ e. (base : List ℕ) (db : Database)
             → Refuses base db e.0) }
@@ -148,27 +157,63 @@ impl<S: Alter> SqlShelf<S> {
     {
         let mut connection = connection;
         match begin_store(&mut connection) {
-            Ok(()) => SqlShelf::over(alloc, connection, base, 0),
+            Ok(()) => Ok(SqlShelf::of_parts(connection, base, 0)),
+            Err(error) => Err((open_fault_of(&error), connection)),
+        }
+    }
+
+    /// Migrates the tables from version 1 to version 2, in one transaction, and returns a shelf over them. The
+    /// audit has `rows` rows. Fails with `Device` if there are more than `LAST_NUMBER` rows or the device
+    /// failed, and with `NoMemory` if memory runs out. An error contains the connection: it is closed, or its
+    /// tables are those of version 1 as before.
+    fn migrated(
+        connection: Connection<S>,
+        base: Text,
+        rows: u64,
+    ) -> Result<SqlShelf<S>, (OpenFault, Connection<S>)>
+        requires { connection.in_transaction ≡ false }
+        ensures base { IfOk result (λ shelf. shelf.base ≡ base) }
+        ensures count { IfOk result (λ shelf. (shelf.failures ≡ 0) × (shelf.rows ≡ rows)) }
+        ensures became { IfOk result (λ shelf. HasCleanDisk (state S.Store shelf.connection)
+            → Became (state S.Store connection) (state S.Store shelf.connection) Migrates) }
+        ensures refused { IfErr result (λ e. (base : List ℕ) (db : Database)
+            → Refuses base db e.0) }
+        ensures rests { IfErr result (λ e. HasCleanDisk (state S.Store e.1)
+            → Rests (state S.Store connection) (state S.Store e.1)) }
+        ensures crash { IfOk result (λ shelf.
+            Survives (state S.Store connection) (state S.Store shelf.connection)
+            (Leaves Migrates (state S.Store connection).now)) }
+        ensures crash_at_err { IfErr result (λ e. Survives (state S.Store connection)
+            (state S.Store e.1) (Leaves Migrates (state S.Store connection).now)) }
+    {
+        if rows > LAST_NUMBER {
+            return Err((OpenFault::Device, connection));
+        }
+        let mut connection = connection;
+        match migrate(&mut connection) {
+            Ok(()) => Ok(SqlShelf::of_parts(connection, base, rows)),
             Err(error) => Err((open_fault_of(&error), connection)),
         }
     }
 
     /// Opens a database as a store of resources with locations below the base URI. If it is empty, the tables
-    /// are created in one transaction. Otherwise all rows are read and checked, in time nearly linear in
-    /// their number. The audit rows are read one at a time, and all other rows are held until they are
-    /// checked.
+    /// are created in one transaction. Otherwise all rows are read and checked by the rules of the version of
+    /// the tables, in time nearly linear in their number. The audit rows are read one at a time, and all other
+    /// rows are held until they are checked. Valid tables of version 1 are then migrated to version 2, in one
+    /// transaction.
     ///
     /// `contents` copies the resources of a valid store while they are checked, for
     /// [`scim_shelf::CachedShelf::with_contents`]. It copies nothing if memory runs out for the copies or the
     /// database was empty.
     ///
-    /// Fails with `WrongVersion` if the tables are of another version, with `Damaged` if an id has rows, but
-    /// not exactly the rows of one valid resource, and with `Store` if the database belongs to another
-    /// program, or if its tables don't hold a valid store for another reason. Fails with `Device` if the
-    /// device failed or the connection is in a transaction, and with `NoMemory` if memory runs out.
+    /// Fails with `WrongVersion` if the tables are of another version than 1 and 2, with `Damaged` if an id has
+    /// rows, but not exactly the rows of one valid resource, and with `Store` if the database belongs to
+    /// another program, if it doesn't have the tables of the version that it names, or if its tables don't
+    /// hold a valid store for another reason. Fails with `Device` if the device failed or the connection is in
+    /// a transaction, and with `NoMemory` if memory runs out.
     ///
     /// An error also contains the connection: it is closed, or its database is unchanged or as the last
-    /// commit left it, except that the tables may have been created in an empty database.
+    /// commit left it. If the migration fails, the tables are still those of version 1.
     pub fn open(
         alloc: Global,
         connection: Connection<S>,
@@ -190,14 +235,18 @@ impl<S: Alter> SqlShelf<S> {
             → (state S.Store connection).now.schema ≢ no_schema
             → Rests (state S.Store connection) (state S.Store e.1)) }
 
-        // A crash leaves a state that a crash before the call could also leave, or, if the database was
-        // empty, the tables of an empty store.
+        // A crash leaves a state that a crash before the call could also leave; or, if the database was
+        // empty, the tables of an empty store; or, if the tables were of version 1, the migrated ones.
         ensures crash { IfOk result (λ shelf.
             Survives (state S.Store connection) (state S.Store (connection_of shelf))
             (LeavesBegun base.now (state S.Store connection))) }
         ensures crash_at_err { IfErr result (λ e. Survives (state S.Store connection)
             (state S.Store e.1) (LeavesBegun base.now (state S.Store connection))) }
     {
+        let own = match Text::copy_of(alloc, base) {
+            Ok(own) => own,
+            Err(_) => return Err((OpenFault::NoMemory, connection)),
+        };
         let mut connection = connection;
         let examined = match examine(&mut connection, alloc, base, contents) {
             Ok(examined) => examined,
@@ -206,9 +255,12 @@ impl<S: Alter> SqlShelf<S> {
         match examined {
             Examined::Empty => {
                 *contents = CacheContents::none();
-                SqlShelf::begin(alloc, connection, base)
+                SqlShelf::begin(connection, own)
             }
-            Examined::Stands(rows) => SqlShelf::over(alloc, connection, base, rows),
+            Examined::Stands(version, rows) => match version {
+                Version::One => SqlShelf::migrated(connection, own, rows),
+                Version::Two => SqlShelf::over(connection, own, rows),
+            },
             Examined::WrongVersion => Err((OpenFault::WrongVersion, connection)),
             Examined::Damaged(id) => Err((OpenFault::Damaged(id), connection)),
             Examined::Foreign => Err((OpenFault::Store, connection)),

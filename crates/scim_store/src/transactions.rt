@@ -6,14 +6,14 @@ ghost use Rattle.sqlite.specs.Held.{state};
 ghost use Rattle.scim_store_tables.specs.Audit.{last_number, audit_values};
 ghost use Rattle.scim_store_tables.specs.Lists.{Lists, Are, without, has_text, resource_values};
 ghost use Rattle.scim_store_tables.specs.Steps.{DoesIn, Became, Undoes, Leaves};
-ghost use Rattle.scim_store.specs.Edits.{is_name, is_member, rows_of_names, rows_of_members, rows_of_document, edited, edited_by, with_row, Writes};
+ghost use Rattle.scim_store.specs.Edits.{is_name, is_member, is_secret, rows_of_names, rows_of_members, rows_of_secret, rows_of_document, edited, edited_by, with_row, Writes};
 
-use crate::edits::Edits;
+use crate::edits::{Edits, SecretEdit};
 use scim_cell::Text;
 use scim_store_rows::kind_number;
 use scim_store_tables::{
-    AuditColumns, delete_member, delete_name, delete_resource, insert_audit, insert_member,
-    insert_name, insert_resource, update_resource,
+    AuditColumns, delete_member, delete_name, delete_resource, delete_secret, insert_audit,
+    insert_member, insert_name, insert_resource, insert_secret, update_resource,
 };
 use scim_value::UniqueName;
 use sqlite::{Alter, Connection, Error, ErrorCode, Transaction};
@@ -80,6 +80,59 @@ fn insert_members<S: Alter>(
         insert_member(tx, value.as_str(), group_id)?;
     }
     Ok(())
+}
+
+/// Deletes the row of the user's door code, if the edit removes it.
+fn take_secret<S: Alter>(
+    tx: &mut Transaction<'_, S>,
+    id: &str,
+    edit: &SecretEdit,
+) -> Result<(), Error>
+    ensures does { DoesIn S.Store tx.old tx.new result
+        (λ old new. (lists : Lists) → Are old lists
+        → Are new (record lists { secret = without (is_secret id.now edit.now) lists.secret })) }
+{
+    match edit {
+        SecretEdit::Goes | SecretEdit::Becomes(_) => {
+            delete_secret(tx, id)?;
+            Ok(())
+        }
+        SecretEdit::Stays | SecretEdit::Comes(_) => Ok(()),
+    }
+}
+
+/// Inserts a row with the user's new door code, if the edit adds one.
+fn put_secret<S: Alter>(
+    tx: &mut Transaction<'_, S>,
+    id: &str,
+    edit: &SecretEdit,
+) -> Result<(), Error>
+    ensures does { DoesIn S.Store tx.old tx.new result
+        (λ old new. (lists : Lists) → Are old lists
+        → Are new (record lists { secret = rows_of_secret id.now edit.now ++ lists.secret })) }
+{
+    match edit {
+        SecretEdit::Comes(code) | SecretEdit::Becomes(code) => {
+            insert_secret(tx, id, code.as_str())?;
+            Ok(())
+        }
+        SecretEdit::Stays | SecretEdit::Goes => Ok(()),
+    }
+}
+
+/// Deletes the row of the user's old door code and inserts one with the new door code, as the edit says.
+fn write_secret<S: Alter>(
+    tx: &mut Transaction<'_, S>,
+    id: &str,
+    edit: &SecretEdit,
+) -> Result<(), Error>
+    ensures does { DoesIn S.Store tx.old tx.new result
+        (λ old new. (lists : Lists) → Are old lists → Are new (record lists {
+          secret = rows_of_secret id.now edit.now ++ without (is_secret id.now edit.now) lists.secret;
+        })) }
+{
+    take_secret(tx, id, edit)?;
+    put_secret(tx, id, edit)
 }
 
 /// Inserts the row of the resource, if the edits have a document.
@@ -182,9 +235,11 @@ pub(crate) fn put_rows<S: Alter>(tx: &mut Transaction<'_, S>, edits: &Edits) -> 
           resources = rows_of_document edits.now ++ lists.resources;
           taken = rows_of_names edits.now.id edits.now.names_come.items ++ lists.taken;
           member = rows_of_members edits.now.id edits.now.members_come.items ++ lists.member;
+          secret = rows_of_secret edits.now.id edits.now.secret ++ lists.secret;
         })) }
 {
     put_resource(tx, edits)?;
+    put_secret(tx, edits.id.as_str(), &edits.secret)?;
     put_names_and_members(tx, edits)
 }
 
@@ -195,6 +250,7 @@ fn edit_rows<S: Alter>(tx: &mut Transaction<'_, S>, edits: &Edits) -> Result<(),
 {
     take_names_and_members(tx, edits)?;
     edit_resource(tx, edits)?;
+    write_secret(tx, edits.id.as_str(), &edits.secret)?;
     put_names_and_members(tx, edits)
 }
 

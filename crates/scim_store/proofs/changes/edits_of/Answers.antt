@@ -1,4 +1,4 @@
-use Rattle.std.proofs.Common.{sym, subst, Option, None, Some}
+use Rattle.std.proofs.Common.{refl, sym, subst, Option, None, Some}
 use Rattle.std.specs.Option.{option_copied}
 use Rattle.scim_cell.specs.Content.{Content}
 use Rattle.scim_shelf.specs.declared.changes.Change.{Change}
@@ -19,4 +19,4 @@ returns-in_ok-edits-in-Remove c = λ base cs.
     let e = c.in_ok-edits-in-Remove.edits in
     subst (λ (change : Change). IsOld cs change (option_copied c.args.old) → KeepsBelow base change → AreEdits base cs change (Some e)) (sym c.in-Remove.is) (λ was below.
     subst (λ (o : Option Content). Replaces base c.in-Remove.id o None e) (sym was)
-    (c.in_ok-edits-in-Remove.ensures.replaces base c.in_ok-edits-in-Remove.ensures.document))
+    (c.in_ok-edits-in-Remove.ensures.replaces base refl c.in_ok-edits-in-Remove.ensures.document))

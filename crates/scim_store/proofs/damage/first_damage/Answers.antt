@@ -17,7 +17,7 @@ use Rattle.scim_store.proofs.damage.first_damage.Goals as goal
 
 pub returns-then-not-branch-clause-some : goal.returns-then-not-branch-clause-some
 returns-then-not-branch-clause-some c = λ ordered.
-    (let P : List ℕ → Type 0 = λ id. IsId id × (AreOrdered c.args.tables.now → HoldsAt c.args.base.now c.args.tables.now id) in
+    (let P : List ℕ → Type 0 = λ id. IsId id × (AreOrdered c.args.tables.now → HoldsAt c.args.version c.args.base.now c.args.tables.now id) in
     let keys = c.args.ids.now.keys in
     let id = c.in-Some.id.now in
     let so = c.loop-id.invariant in
@@ -33,7 +33,7 @@ returns-then-not-branch-clause-some c = λ ordered.
 
 pub loop-id-preserved : goal.loop-id-preserved
 loop-id-preserved c =
-    let P : List ℕ → Type 0 = λ id. IsId id × (AreOrdered c.args.tables.now → HoldsAt c.args.base.now c.args.tables.now id) in
+    let P : List ℕ → Type 0 = λ id. IsId id × (AreOrdered c.args.tables.now → HoldsAt c.args.version c.args.base.now c.args.tables.now id) in
     let id = c.in-Some.id.now in
     let so = c.loop-id.invariant in
     let front : c.loop-id.id-iterator ≡ id ∷ c.next.new.self = search rules in
@@ -41,7 +41,7 @@ loop-id-preserved c =
 
 pub returns-clause-none : goal.returns-clause-none
 returns-clause-none c = λ ordered _ x is.
-    (let P : List ℕ → Type 0 = λ id. IsId id × (AreOrdered c.args.tables.now → HoldsAt c.args.base.now c.args.tables.now id) in
+    (let P : List ℕ → Type 0 = λ id. IsId id × (AreOrdered c.args.tables.now → HoldsAt c.args.version c.args.base.now c.args.tables.now id) in
     let keys = c.args.ids.now.keys in
     let so = c.loop-id.invariant in
     let none : c.loop-id.id-iterator ≡ [] = rest_all deref c.loop-id.id-iterator c.next.new.self c.next.result c.in-None.is c.next.ensures.steps in
@@ -52,7 +52,7 @@ returns-clause-none c = λ ordered _ x is.
 
 pub returns-clause-ids : goal.returns-clause-ids
 returns-clause-ids c = λ _.
-    (let P : List ℕ → Type 0 = λ id. IsId id × (AreOrdered c.args.tables.now → HoldsAt c.args.base.now c.args.tables.now id) in
+    (let P : List ℕ → Type 0 = λ id. IsId id × (AreOrdered c.args.tables.now → HoldsAt c.args.version c.args.base.now c.args.tables.now id) in
     let so = c.loop-id.invariant in
     let none : c.loop-id.id-iterator ≡ [] = rest_all deref c.loop-id.id-iterator c.next.new.self c.next.result c.in-None.is c.next.ensures.steps in
     let all : so.0 ≡ c.args.ids.now.keys = sym (append-nil so.0) ∙ ap (λ (ks : List (List ℕ)). so.0 ++ ks) (sym none) ∙ sym so.1 in

@@ -6,4 +6,4 @@ use Rattle.scim_store.proofs.damage.first_damage.Given as goal
 
 -- the rows of the ids so far hold, if all are in order
 abbrev pub invariant-loop-id : goal.invariant-loop-id
-invariant-loop-id l = (done : List (List ℕ)) × (l.ids.keys ≡ done ++ l.id-iterator) × All (λ id. IsId id × (AreOrdered l.tables → HoldsAt l.base l.tables id)) done
+invariant-loop-id l = (done : List (List ℕ)) × (l.ids.keys ≡ done ++ l.id-iterator) × All (λ id. IsId id × (AreOrdered l.tables → HoldsAt l.version l.base l.tables id)) done

@@ -9,7 +9,8 @@ pub returns-clause-examined : goal.returns-clause-examined
 returns-clause-examined c = λ db is.
     (let base = c.args.base.now in
     let rows = c.args.rows in
+    let v = c.args.version in
     let tables = c.resource_rows-tables.ensures in
-    let ordered = subst AreOrdered (sym tables) (ordered_read db rows (altered_rows db rows is)) in
-    let judged = subst (λ t. Judges base t c.in_ok-judge_rows.field-0) tables (c.in_ok-judge_rows.ensures.judged ordered) in
-    subst (IsFor base db) (sym c.of_altered.ensures) (altered_read base db rows c.in_ok-judge_rows.field-0 is judged))
+    let ordered = subst AreOrdered (sym tables) (ordered_read v db rows (altered_rows db v rows is)) in
+    let judged = subst (λ t. Judges v base t c.in_ok-judge_rows.field-0) tables (c.in_ok-judge_rows.ensures.judged ordered) in
+    subst (IsFor base db) (sym c.of_altered.ensures) (altered_read base db v rows c.in_ok-judge_rows.field-0 is judged))
