@@ -17,7 +17,7 @@ use Rattle.scim_command_database.specs.Works.{KeepsStoreOf, Reads, program_resul
 opened_keyed : (base : List ℕ) (db : Database) (store : Store) → Opens base db store → AreKeyed store.resources
 opened_keyed base db store opens = elim opens [
   | inl new ↦ subst (λ (s : Store). AreKeyed s.resources) (sym new.1) keyed_nil
-  | inr found ↦ found.0.keyed
+  | inr found ↦ found.1.keyed
 ]
 
 -- a call that keeps the store of an opened database, where `Holds` is true of that store

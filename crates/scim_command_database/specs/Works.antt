@@ -30,7 +30,8 @@ program_result (Err fault) = Err (Run fault)
 
 -- The database can't be opened as a store, and `f` says why. Unless it was empty, the connection is closed, or
 -- the database is unchanged or as the last commit left it. A crash leaves a state that a crash before could
--- also leave, or, if the database was empty, the tables of an empty store.
+-- also leave; or, if the database was empty, the tables of an empty store; or, if its tables were of version 1,
+-- the migrated ones.
 pub record IsRefused (base : List ℕ) (old new : State) (f : OpenFault) : Type 0 where
   pub refused : HasCleanDisk new → Refuses base old.now f
   pub rests : HasCleanDisk new → old.now.schema ≢ no_schema → Rests old new
