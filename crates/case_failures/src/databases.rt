@@ -4,6 +4,7 @@
 //! concrete storage takes long to prove.
 ghost use Rattle.std.specs.Prelude.{◌≡◌, false};
 
+use crate::old_databases::{has_door_codes, make_old_database};
 use crate::request_parts::{RequestParts, are_answered};
 use scim_audit::{AuditRow, print_row};
 use scim_cell::Text;
@@ -25,6 +26,11 @@ use std::alloc::Global;
 pub(crate) enum Work<'a> {
     /// Imports the sample users into a new database. The result is an empty text.
     Fill,
+    /// Makes a database of version 1 with the sample users in a new database. The result is an empty text.
+    FillOld,
+    /// Looks for the table of door codes, which version 2 has. The result is an empty text if the database has
+    /// one, and else `None`.
+    LookForDoorCodes,
     /// Answers these requests over the store. The result is an empty text, or `None` if a reply has the
     /// status 500.
     Answer(&'a [RequestParts]),
@@ -44,6 +50,8 @@ pub(crate) fn work_over<S: Alter>(
 {
     match work {
         Work::Fill => fill(alloc, connection),
+        Work::FillOld => fill_old(alloc, connection),
+        Work::LookForDoorCodes => look_for_door_codes(alloc, connection),
         Work::Answer(requests) => match SqlShelf::open(
             alloc,
             connection,
@@ -65,6 +73,29 @@ fn fill<S: Alter>(alloc: Global, connection: Connection<S>) -> (Option<String>, 
         Ok(()) => (Some(String::new(alloc)), connection),
         Err(_) => (None, connection),
     }
+}
+
+fn fill_old<S: Alter>(alloc: Global, connection: Connection<S>) -> (Option<String>, Connection<S>) {
+    let mut connection = connection;
+    let told = if make_old_database(&mut connection) {
+        Some(String::new(alloc))
+    } else {
+        None
+    };
+    (told, connection)
+}
+
+fn look_for_door_codes<S: Alter>(
+    alloc: Global,
+    connection: Connection<S>,
+) -> (Option<String>, Connection<S>) {
+    let mut connection = connection;
+    let told = if has_door_codes(&mut connection) {
+        Some(String::new(alloc))
+    } else {
+        None
+    };
+    (told, connection)
 }
 
 fn look_into<S: Alter>(alloc: Global, connection: Connection<S>) -> (Option<String>, Connection<S>)

@@ -33,6 +33,8 @@ pub(crate) struct Outcome {
     pub(crate) is_answered: bool,
     /// Whether neither file failed and each has at least one call left.
     pub(crate) is_whole: bool,
+    /// Whether the database has a table of door codes after the crash, before it is opened as a store.
+    pub(crate) has_door_codes: bool,
     /// The contents of the database after the crash, or `None` if they can't be read.
     pub(crate) found: Option<String>,
 }
@@ -48,8 +50,18 @@ impl Contents {
 
     /// Returns the contents of the files of a database with the sample users, or `None` if memory runs out.
     pub(crate) fn sample(alloc: Global) -> Option<Contents> {
+        Contents::made(alloc, Work::Fill)
+    }
+
+    /// Returns the contents of the files of a database of version 1 with the sample users, or `None` if memory
+    /// runs out.
+    pub(crate) fn old_sample(alloc: Global) -> Option<Contents> {
+        Contents::made(alloc, Work::FillOld)
+    }
+
+    fn made(alloc: Global, work: Work<'_>) -> Option<Contents> {
         let files = Contents::none(alloc).files(alloc, ALL)?;
-        let (told, files) = over_files(alloc, files, Work::Fill);
+        let (told, files) = over_files(alloc, files, work);
         told?;
         match copied(alloc, &files) {
             Ok(contents) => Some(contents),
@@ -132,10 +144,12 @@ fn outcome_over<D: Crash + Drop>(
     let is_whole = has_calls_left(&mut files.log) && has_calls_left(&mut files.db);
     files.log.crash();
     files.db.crash();
+    let (door_codes, files) = over_files(alloc, files, Work::LookForDoorCodes);
     let (found, _files) = over_files(alloc, files, Work::Look);
     Outcome {
         is_answered: told.is_some(),
         is_whole,
+        has_door_codes: door_codes.is_some(),
         found,
     }
 }

@@ -5,6 +5,7 @@
 
 mod databases;
 mod files;
+mod old_databases;
 mod once_runs;
 mod request_parts;
 mod served;

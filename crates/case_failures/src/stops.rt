@@ -54,6 +54,13 @@ const REMOVE_GROUP: [RequestParts; 1] = [RequestParts {
     body: "",
 }];
 
+const CODE: [RequestParts; 1] = [RequestParts {
+    action: Action::Patch,
+    kind: Kind::User,
+    id: ALICE,
+    body: "{\"Operations\":[{\"op\":\"add\",\"path\":\"doorCode\",\"value\":\"1234\"}]}",
+}];
+
 /// Whether the contents after a stop are the contents before the turn or the contents after it. If the turn
 /// was answered, only the contents after it are right.
 fn is_right(outcome: &Outcome, before: &Outcome, after: &Outcome) -> bool {
@@ -61,16 +68,37 @@ fn is_right(outcome: &Outcome, before: &Outcome, after: &Outcome) -> bool {
     is_done || (outcome.found == before.found && !outcome.is_answered)
 }
 
-/// Whether [`is_right`] is true after each stop of one file, which is the log if `is_of_log` is true, or else
+/// Whether the contents after a stop are those of the database of version 1. If the opening was answered, the
+/// database must have version 2.
+fn is_moved_right(outcome: &Outcome, before: &Outcome) -> bool {
+    outcome.found == before.found && (outcome.has_door_codes || !outcome.is_answered)
+}
+
+/// What the contents after a stop must be.
+#[derive(Clone, Copy)]
+enum Right<'o> {
+    /// Those of the first outcome or those of the second.
+    Either(&'o Outcome, &'o Outcome),
+    /// Those of the outcome, in version 2 if the opening was answered.
+    Moved(&'o Outcome),
+}
+
+fn is_one_of(outcome: &Outcome, right: Right<'_>) -> bool {
+    match right {
+        Right::Either(before, after) => is_right(outcome, before, after),
+        Right::Moved(before) => is_moved_right(outcome, before),
+    }
+}
+
+/// Whether the contents are right after each stop of one file, which is the log if `is_of_log` is true, or else
 /// the database. Increases the number of calls until no file fails. Then the turn must be answered.
 fn stops_well(
     alloc: Global,
     contents: &Contents,
     requests: &[RequestParts],
-    ends: (&Outcome, &Outcome),
+    right: Right<'_>,
     is_of_log: bool,
 ) -> bool {
-    let (before, after) = ends;
     for count in 0..MOST {
         let calls = if is_of_log {
             Calls { log: count, ..ALL }
@@ -80,7 +108,7 @@ fn stops_well(
         let Some(outcome) = contents.outcome(alloc, calls, requests) else {
             return false;
         };
-        if !is_right(&outcome, before, after) {
+        if !is_one_of(&outcome, right) {
             return false;
         }
         if outcome.is_whole {
@@ -103,8 +131,35 @@ fn nothing_else_is_left(alloc: Global, contents: &Contents, requests: &[RequestP
     before.found.is_some()
         && after.found.is_some()
         && before.found != after.found
-        && stops_well(alloc, contents, requests, (&before, &after), true)
-        && stops_well(alloc, contents, requests, (&before, &after), false)
+        && both_stop_well(alloc, contents, requests, Right::Either(&before, &after))
+}
+
+fn both_stop_well(
+    alloc: Global,
+    contents: &Contents,
+    requests: &[RequestParts],
+    right: Right<'_>,
+) -> bool {
+    stops_well(alloc, contents, requests, right, true)
+        && stops_well(alloc, contents, requests, right, false)
+}
+
+/// Whether each stop of a file while a database of version 1 is opened leaves the same store, in version 1 or 2.
+fn is_moved_or_not(alloc: Global) -> bool {
+    let Some(contents) = Contents::old_sample(alloc) else {
+        return false;
+    };
+    let none = Calls { log: 0, db: 0 };
+    let (Some(before), Some(after)) = (
+        contents.outcome(alloc, none, &[]),
+        contents.outcome(alloc, ALL, &[]),
+    ) else {
+        return false;
+    };
+    before.found.is_some()
+        && !before.has_door_codes
+        && after.has_door_codes
+        && both_stop_well(alloc, &contents, &[], Right::Moved(&before))
 }
 
 /// Whether each stop of a file in the turn leaves the contents before the turn or the contents after it. The
@@ -133,9 +188,13 @@ enum Stopped {
     Put,
     /// A group with a member is removed.
     RemoveGroup,
+    /// A user gets a door code.
+    Code,
+    /// A database of version 1 is opened.
+    Migration,
 }
 
-static TURNS: [(&str, Stopped); 7] = [
+static TURNS: [(&str, Stopped); 9] = [
     ("opening", Stopped::Opening),
     ("create", Stopped::Create),
     ("patch", Stopped::Patch),
@@ -143,6 +202,8 @@ static TURNS: [(&str, Stopped); 7] = [
     ("remove", Stopped::Remove),
     ("put", Stopped::Put),
     ("remove_group", Stopped::RemoveGroup),
+    ("code", Stopped::Code),
+    ("migration", Stopped::Migration),
 ];
 
 fn is_done_or_not(alloc: Global, stopped: Stopped) -> bool {
@@ -154,6 +215,8 @@ fn is_done_or_not(alloc: Global, stopped: Stopped) -> bool {
         Stopped::Remove => nothing_else_is_left_of(alloc, &REMOVE),
         Stopped::Put => nothing_else_is_left_of(alloc, &PUT),
         Stopped::RemoveGroup => nothing_else_is_left_of(alloc, &REMOVE_GROUP),
+        Stopped::Code => nothing_else_is_left_of(alloc, &CODE),
+        Stopped::Migration => is_moved_or_not(alloc),
     }
 }
 

@@ -1,6 +1,8 @@
 //! The calls of `scim_json`, and cases of users files.
-use case_values::{Case, CaseFault, between, file_text, named, said};
-use scim_json::{Damaged, DamagedItem, read_documents, read_stored, stored_text, to_json};
+use case_values::{Case, CaseFault, between, file_text, joined, named, said};
+use scim_json::{
+    Damaged, DamagedItem, kept_parts, read_documents, read_kept, read_stored, stored_text, to_json,
+};
 use scim_samples::{BASE, part_text};
 use scim_text::Failed;
 use scim_value::Resource;
@@ -14,15 +16,19 @@ enum JsonCall {
     ReadStored,
     StoredAgain,
     ReadsBack,
+    KeptParts,
+    ReadKept,
     UsersFile,
 }
 
-static CALLS: [(&str, JsonCall); 6] = [
+static CALLS: [(&str, JsonCall); 8] = [
     ("to_json", JsonCall::ToJson),
     ("stored_text", JsonCall::StoredText),
     ("read_stored", JsonCall::ReadStored),
     ("stored_again", JsonCall::StoredAgain),
     ("reads_back", JsonCall::ReadsBack),
+    ("kept_parts", JsonCall::KeptParts),
+    ("read_kept", JsonCall::ReadKept),
     ("users_file", JsonCall::UsersFile),
 ];
 
@@ -35,6 +41,8 @@ pub fn answer(case: &Case<'_>, call: &str) -> Option<Result<String, CaseFault>> 
         JsonCall::ReadStored => read_stored_call(case, false),
         JsonCall::StoredAgain => read_stored_call(case, true),
         JsonCall::ReadsBack => reads_back(case),
+        JsonCall::KeptParts => kept_parts_call(case),
+        JsonCall::ReadKept => read_kept_call(case),
         JsonCall::UsersFile => users_file(case),
     })
 }
@@ -79,6 +87,28 @@ fn read_again(alloc: Global, resource: &Resource) -> Result<String, CaseFault> {
         Ok(again) if again == *resource => said(alloc, "true"),
         Ok(_) => said(alloc, "another resource"),
         Err(_) => said(alloc, "Damaged"),
+    }
+}
+
+/// Returns the document that a database keeps of a resource, with the door code and ` beside ` before it if the
+/// resource has one.
+fn kept_parts_call(case: &Case<'_>) -> Result<String, CaseFault> {
+    let resource = case.resource()?;
+    let (text, code) = kept_parts(case.alloc, &resource)?;
+    match code {
+        Some(code) => joined(case.alloc, &[code.as_str(), " beside ", text.as_str()]),
+        None => Ok(text),
+    }
+}
+
+/// Reads a document and the door code that a database keeps beside it, if any. Returns the resource's cells, or
+/// `Damaged` if they belong to no resource.
+fn read_kept_call(case: &Case<'_>) -> Result<String, CaseFault> {
+    let base = case.text_or("base", BASE);
+    match read_kept(case.alloc, base, case.text("text")?, case.text("code").ok()) {
+        Ok(resource) => resource_text(case.alloc, false, &resource),
+        Err(Failed::Because(Damaged)) => said(case.alloc, "Damaged"),
+        Err(Failed::NoMemory) => Err(CaseFault::NoMemory),
     }
 }
 

@@ -7,7 +7,8 @@ use scim_samples::leaf_text;
 use scim_schema::{
     Attribute, Characteristics, Kind, Leaf, Schema, attribute_characteristics, attribute_named,
     attribute_named_in, attributes, characteristics_of, core_schema, extension_of, extensions,
-    has_leaf, is_multi_valued, leaves, schema_of, sub_attribute_named, sub_attributes, unit_of,
+    has_leaf, is_dropped, is_multi_valued, leaves, schema_of, sub_attribute_named, sub_attributes,
+    unique_leaves, unique_leaves_by_name, unit_of,
 };
 use std::alloc::Global;
 
@@ -27,6 +28,9 @@ enum SchemaCall {
     WholeAttribute,
     HasLeaf,
     UnitOf,
+    UniqueLeaves,
+    UniqueLeavesByName,
+    IsDropped,
 }
 
 /// The key by which a call looks up a schema.
@@ -38,7 +42,7 @@ enum SchemaBy {
     Extension,
 }
 
-static CALLS: [(&str, SchemaCall); 16] = [
+static CALLS: [(&str, SchemaCall); 19] = [
     ("attribute", SchemaCall::Attribute),
     ("attribute_in", SchemaCall::AttributeIn),
     ("sub_attribute", SchemaCall::SubAttribute),
@@ -55,6 +59,9 @@ static CALLS: [(&str, SchemaCall); 16] = [
     ("whole_attribute", SchemaCall::WholeAttribute),
     ("has_leaf", SchemaCall::HasLeaf),
     ("unit_of", SchemaCall::UnitOf),
+    ("unique_leaves", SchemaCall::UniqueLeaves),
+    ("unique_leaves_by_name", SchemaCall::UniqueLeavesByName),
+    ("is_dropped", SchemaCall::IsDropped),
 ];
 
 /// Returns the result of the case's call, or `None` if it isn't a call of `scim_schema`.
@@ -74,6 +81,11 @@ pub fn answer(case: &Case<'_>, call: &str) -> Option<Result<String, CaseFault>> 
         SchemaCall::WholeAttribute => whole_attribute(case),
         SchemaCall::HasLeaf => has_leaf_call(case),
         SchemaCall::UnitOf => unit_call(case),
+        SchemaCall::UniqueLeaves => leaf_list(case.alloc, unique_leaves(case.kind())),
+        SchemaCall::UniqueLeavesByName => {
+            leaf_list(case.alloc, unique_leaves_by_name(case.kind()))
+        }
+        SchemaCall::IsDropped => is_dropped_call(case),
     })
 }
 
@@ -82,6 +94,7 @@ fn schema_word(schema: Schema) -> &'static str {
         Schema::User => "User",
         Schema::Group => "Group",
         Schema::EnterpriseUser => "EnterpriseUser",
+        Schema::SiteUser => "Site",
     }
 }
 
@@ -259,4 +272,19 @@ fn unit_call(case: &Case<'_>) -> Result<String, CaseFault> {
         sub_attribute: unit.sub_attribute,
     };
     Ok(leaf_text(case.alloc, leaf)?)
+}
+
+/// Returns the paths of the leaves, with a space after each.
+fn leaf_list(alloc: Global, leaves: &[Leaf]) -> Result<String, CaseFault> {
+    let mut text = String::new(alloc);
+    for leaf in leaves {
+        let path = leaf_text(alloc, *leaf)?;
+        push_all(&mut text, &[path.as_str(), " "])?;
+    }
+    Ok(text)
+}
+
+/// Whether a body may give the leaf though it is neither stored nor returned.
+fn is_dropped_call(case: &Case<'_>) -> Result<String, CaseFault> {
+    truth(case.alloc, is_dropped(case.leaf("leaf")?))
 }
