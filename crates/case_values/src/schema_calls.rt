@@ -8,7 +8,7 @@ use scim_schema::{
     Attribute, Characteristics, Kind, Leaf, Schema, attribute_characteristics, attribute_named,
     attribute_named_in, attributes, characteristics_of, core_schema, extension_of, extensions,
     has_leaf, is_dropped, is_multi_valued, leaves, schema_of, sub_attribute_named, sub_attributes,
-    unique_leaves, unique_leaves_by_name, unit_of,
+    unique_leaves_by_name, unit_of,
 };
 use std::alloc::Global;
 
@@ -28,7 +28,6 @@ enum SchemaCall {
     WholeAttribute,
     HasLeaf,
     UnitOf,
-    UniqueLeaves,
     UniqueLeavesByName,
     IsDropped,
 }
@@ -42,7 +41,7 @@ enum SchemaBy {
     Extension,
 }
 
-static CALLS: [(&str, SchemaCall); 19] = [
+static CALLS: [(&str, SchemaCall); 18] = [
     ("attribute", SchemaCall::Attribute),
     ("attribute_in", SchemaCall::AttributeIn),
     ("sub_attribute", SchemaCall::SubAttribute),
@@ -59,7 +58,6 @@ static CALLS: [(&str, SchemaCall); 19] = [
     ("whole_attribute", SchemaCall::WholeAttribute),
     ("has_leaf", SchemaCall::HasLeaf),
     ("unit_of", SchemaCall::UnitOf),
-    ("unique_leaves", SchemaCall::UniqueLeaves),
     ("unique_leaves_by_name", SchemaCall::UniqueLeavesByName),
     ("is_dropped", SchemaCall::IsDropped),
 ];
@@ -81,7 +79,6 @@ pub fn answer(case: &Case<'_>, call: &str) -> Option<Result<String, CaseFault>> 
         SchemaCall::WholeAttribute => whole_attribute(case),
         SchemaCall::HasLeaf => has_leaf_call(case),
         SchemaCall::UnitOf => unit_call(case),
-        SchemaCall::UniqueLeaves => leaf_list(case.alloc, unique_leaves(case.kind())),
         SchemaCall::UniqueLeavesByName => {
             leaf_list(case.alloc, unique_leaves_by_name(case.kind()))
         }

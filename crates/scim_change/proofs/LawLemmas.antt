@@ -173,7 +173,7 @@ stamp_open Group = refl
 pub secret_unstamped : (kind : Kind) (u : AttributeUnit) → is_secret kind u ≡ true → stamp ≢ u
 secret_unstamped kind u secret e = (let t : is_secret kind stamp ≡ true = ap (is_secret kind) e ∙ secret in let n = stamp_open kind in cc)
 
--- what is left but at some of the units is left but at all of them
+-- a change that leaves all values outside some of these units alone leaves all values outside these units alone
 left_but_all : (p : AttributeUnit → Bool) (us : List AttributeUnit) (changed : Bool) (moment : ℕ) (c x : Content) → IsLeft (filter p us) changed moment c x → IsLeft us changed moment c x
 left_but_all p us changed moment c x h = record {
   kind = h.kind;

@@ -86,7 +86,8 @@ pub fn read_kept(
 
 /// Returns the resource with this text at `doorCode`. Fails with `Damaged` if the result isn't a resource.
 fn joined(alloc: Global, rest: &Resource, code: &str) -> Result<Resource, Failed<Damaged>>
-    ensures ok { IfOk result (λ r. r ≡ with_cell (simple DoorCode) 0 (atom.Text code.now) rest.now) }
+    ensures ok { IfOk result
+        (λ r. r ≡ with_cell (simple DoorCode) 0 (atom.Text code.now) rest.now) }
     ensures valid { OnOk result
         (IsResource (with_cell (simple DoorCode) 0 (atom.Text code.now) rest.now)) }
     ensures base { (base : List ℕ) → HasBase base rest.now → IfOk result (HasBase base) }

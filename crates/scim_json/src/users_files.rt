@@ -34,8 +34,8 @@ const ITEM_DEPTH: usize = 126;
 /// `http://127.0.0.1:8080`.
 ///
 /// It gives the resources one by one, in the order of the list, and keeps only their ids and unique names. No
-/// two resources may have the same id or share a unique name such as `userName`, which is compared without
-/// regard to case (RFC 7643 sections 2.2 and 3.1).
+/// two resources may have the same id or share a unique name such as `userName`. Names are compared without
+/// regard to case, unless their attribute is caseExact (RFC 7643 sections 2.2 and 3.1).
 #[derive(Drop)]
 pub struct DocumentReader<'a> {
     base: &'a str,

@@ -28,7 +28,7 @@ use Rattle.scim_cell.specs.Place.{unit_cmp}
 use Rattle.scim_cell.specs.Content.{Content, IsPart, HasType}
 use Rattle.scim_cell.specs.Rows.{Row, rows, values, atom_in, atom_at, IsSoundField, IsSoundRow}
 use Rattle.scim_value.specs.Resource.{first_at}
-use Rattle.scim_value.specs.Uniqueness.{Name, name_at, unique_names}
+use Rattle.scim_value.specs.Uniqueness.{Name, name_at}
 use Rattle.scim_value.proofs.Facts.{get_cell, sound_part}
 use Rattle.scim_filter_grammar.specs.declared.tree.Filter.{Filter}
 use Rattle.scim_filter_grammar.specs.declared.tree.Literal.TheVariants as literal

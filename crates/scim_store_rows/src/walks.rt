@@ -87,12 +87,14 @@ fn walk_rows<S: Alter, V: Visitor>(
     ensures mode { conn.old.in_transaction ≡ false → conn.new.in_transaction ≡ false }
     ensures spares { Spares (state S.Store conn.old) (state S.Store conn.new) }
     ensures shown { OnOk result (HasCleanDisk (state S.Store conn.new) → (store : Store)
-        → StandsIn base.now (state S.Store conn.old) store → KnowsCodes kind codes.now (state S.Store conn.old) store
+        → StandsIn base.now (state S.Store conn.old) store
+        → KnowsCodes kind codes.now (state S.Store conn.old) store
         → Shows V.Visitor.takes kind store (state S.Store conn.old)
         (state S.Store conn.new) visitor.old visitor.new) }
     ensures prefix { HasCleanDisk (state S.Store conn.new)
         → IfErr result (λ e. e ≢ Error.SqliteFailure ErrorCode.OutOfMemory → (store : Store)
-        → StandsIn base.now (state S.Store conn.old) store → KnowsCodes kind codes.now (state S.Store conn.old) store
+        → StandsIn base.now (state S.Store conn.old) store
+        → KnowsCodes kind codes.now (state S.Store conn.old) store
         → TookPrefix V.Visitor.takes visitor.old (of_kind kind store.resources) visitor.new) }
     ensures rests { HasCleanDisk (state S.Store conn.new) → (store : Store)
         → StandsIn base.now (state S.Store conn.old) store

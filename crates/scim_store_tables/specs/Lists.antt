@@ -50,7 +50,7 @@ version_values version = Text (codes "version") ∷ Int (pos (version_number ver
 pub record Lists : Type 0 where
   -- Columns id, kind and document.
   pub resources : List Row
-  -- Columns attribute, folded text and id of the owner.
+  -- Columns attribute, text and id of the owner.
   pub taken : List Row
   -- Columns value and id of the group.
   pub member : List Row

@@ -37,7 +37,7 @@ use std::alloc::Global;
 pub struct TableRows {
     /// The columns id, kind and document of each resource, sorted by id.
     pub resources: Vec<Row>,
-    /// The columns owner, attribute and folded text of each unique name, sorted by them in this order.
+    /// The columns owner, attribute and text of each unique name, sorted by them in this order.
     pub names: Vec<Row>,
     /// The columns group and value of each member, sorted by them in this order.
     pub members: Vec<Row>,
