@@ -19,6 +19,10 @@ HasKeyed Stands shelf store = Stands shelf store × AreKeyed store.resources
 abbrev pub IsFilled : {S : Type 0} → CachedShelf S → Type 0
 IsFilled shelf = IsSome shelf.resources
 
+-- The cache of a shelf, if it is filled, holds the resources `cs`.
+abbrev pub HoldsInCache : {S : Type 0} → List Content → CachedShelf S → Type 0
+HoldsInCache cs shelf = AreThose cs shelf.resources
+
 -- The shelf below the cache.
 abbrev pub lower_of : {S : Type 0} → CachedShelf S → S
 lower_of shelf = shelf.lower

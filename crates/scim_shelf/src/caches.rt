@@ -1,10 +1,11 @@
 //! A shelf that caches the resources of the shelf below it in memory.
-ghost use Rattle.std.specs.Prelude.{◌≡◌, IsTrue, ◌↔◌, OnOk, OnErr};
+ghost use Rattle.std.specs.Prelude.{◌≡◌, List, IsTrue, IsSome, ◌↔◌, IfSome, OnOk, OnErr, length};
 ghost use Rattle.std.specs.Borrow.{Lends, sem};
 ghost use Rattle.scim_shelf.specs.contracts.caches.CachedShelf.{the_row};
+ghost use Rattle.scim_cell.specs.Content.{Content};
 ghost use Rattle.scim_shelf.specs.Stores.{Store, CanKeep, changed};
 ghost use Rattle.scim_shelf.specs.Shelves.{OnlyReads};
-ghost use Rattle.scim_shelf.specs.Caches.{AreThose, HasCached, HasKeyed, IsFilled, IsWhole, KeepsCache, lower_of, with_lower};
+ghost use Rattle.scim_shelf.specs.Caches.{AreThose, HasCached, HasKeyed, HoldsInCache, IsFilled, IsWhole, KeepsCache, lower_of, with_lower};
 
 use crate::changes::Change;
 use crate::collections::Collection;
@@ -89,6 +90,18 @@ impl<S: Shelf> CachedShelf<S> {
         ensures { IsTrue result ↔ IsFilled self.now }
     {
         self.resources.is_some()
+    }
+
+    /// Returns the number of resources in the cache; `None` if it isn't filled.
+    pub fn cached(&self) -> Option<usize>
+        ensures filled { IsSome result ↔ IsFilled self.now }
+        ensures count { (cs : List Content) → HoldsInCache cs self.now
+            → IfSome result (λ n. n ≡ length cs) }
+    {
+        match &self.resources {
+            Some(resources) => Some(resources.len()),
+            None => None,
+        }
     }
 
     /// Returns the shelf below, for access to data that isn't cached, such as audit rows. A change made

@@ -1,5 +1,5 @@
 //! The resources of a store in memory, indexed by id, by unique name and by member.
-ghost use Rattle.std.specs.Prelude.{◌≡◌, ◌&&◌, ◌||◌, not, ℕ, List, [], true, cond, IfOk, OnOk, OnErr, map, find, filter, AllPairs};
+ghost use Rattle.std.specs.Prelude.{◌≡◌, ◌&&◌, ◌||◌, not, ℕ, List, [], true, cond, IfOk, OnOk, OnErr, map, find, filter, AllPairs, length};
 ghost use Rattle.std.specs.Ordering.{nat_cmp};
 ghost use Rattle.std.specs.Cmp.Lexicographic.{slice_cmp};
 ghost use Rattle.std.specs.BTreeMap.{insert_entry};
@@ -297,6 +297,13 @@ impl Collection {
         };
         self.members.forget_group(&old, id);
         Ok(())
+    }
+
+    /// Returns the number of resources.
+    pub fn len(&self) -> usize
+        ensures { (cs : List Content) → IsCollection cs self.now → result ≡ length cs }
+    {
+        self.by_id.len()
     }
 
     /// Passes the resources of the kind to the visitor, in order of id. After an error the visitor is

@@ -1,0 +1,3 @@
+pub mod WatchedLemmas
+pub mod KeptLemmas
+pub mod Facts
