@@ -15,6 +15,14 @@ service_base service = service.base
 abbrev pub service_shelf : {S : Type 0} → Service S → S
 service_shelf service = service.shelf
 
+-- The service with the policy replaced by one of these rules.
+abbrev pub with_policy : {S : Type 0} → Service S → List Rule → Service S
+with_policy service policy = record service { policy = policy }
+
+-- The service with the shelf replaced by `shelf`.
+abbrev pub with_shelf : {S : Type 0} → Service S → S → Service S
+with_shelf service shelf = record service { shelf = shelf }
+
 -- The service's policy and base URI are unchanged.
 pub record KeepsSetting {S : Type 0} (old new : Service S) : Type 0 where
   pub policy : service_policy new ≡ service_policy old

@@ -7,7 +7,9 @@ ghost use Rattle.scim_shelf.specs.Shelves.{Counts, KeepsStore, Answers};
 ghost use Rattle.scim_shelf.specs.Stores.{Store, IsStore, after, last_number};
 ghost use Rattle.scim_service.specs.Step as spec;
 ghost use Rattle.scim_service.specs.Answers.{IsCause, Answered, Runs};
-ghost use Rattle.scim_service.specs.Setting.{service_base, service_policy, service_shelf, KeepsSetting};
+ghost use Rattle.scim_service.specs.Setting.{service_base, service_policy, service_shelf, with_policy, with_shelf, KeepsSetting};
+ghost use Rattle.std.specs.Borrow.{Lends, sem};
+ghost use Rattle.scim_service.specs.contracts.answering_turns.Service.{the_row};
 
 use crate::plans::planned;
 use crate::replies::Reply;
@@ -152,11 +154,35 @@ impl<S: Shelf> Service<S> {
         Ok(replies)
     }
 
+    /// Returns the policy.
+    pub fn policy(&self) -> &Policy
+        ensures { result.now ≡ service_policy self.now }
+    {
+        &self.policy
+    }
+
+    /// Replaces the policy. The requests that come next are answered by the new one.
+    pub fn set_policy(&mut self, policy: Policy)
+        ensures { self.new ≡ with_policy self.old policy }
+    {
+        self.policy = policy;
+    }
+
     /// Returns the shelf.
     pub fn shelf(&self) -> &S
         ensures { result.now ≡ service_shelf self.now }
     {
         &self.shelf
+    }
+
+    /// Returns the shelf, to read what no request tells, such as audit rows. A change that is made through
+    /// this reference is made without the policy and without an audit row.
+    pub fn shelf_mut(&mut self) -> &mut S
+        ensures* writes_back { sem 𝓛
+            (Lends (the_row S.row) S.row self.entry result (λ shelf. with_shelf self.old shelf)) }
+        ensures shows { result.now ≡ service_shelf self.old }
+    {
+        &mut self.shelf
     }
 
     /// Consumes the service and returns the shelf.

@@ -1,5 +1,5 @@
 -- What was shown the rows of a database has copied the resources of each store that its tables hold.
-use Rattle.std.proofs.Common.{◌≡◌, ℕ, refl, sym, ◌∙◌, ap, subst, Bool, true, false, List, [], ◌∷◌, ◌++◌, map, filter}
+use Rattle.std.proofs.Common.{◌≡◌, ℕ, refl, sym, ◌∙◌, ap, subst, false, List, [], ◌∷◌, ◌++◌, map, filter}
 use Rattle.std.specs.Prelude.{All, Option, None, Some}
 use Rattle.std.specs.Option.{option_map, option_to_list}
 use Rattle.std.specs.Ordering.{nat_cmp, is_eq, ordering_then, ordering_reverse}
@@ -24,7 +24,6 @@ use Rattle.scim_json.specs.Kept.{IsKept}
 use Rattle.scim_json.proofs.Facts.{kept_parts_determine}
 use Rattle.scim_shelf.specs.declared.copies.CacheContents.{CacheContents}
 use Rattle.scim_shelf.specs.Caches.{Caches, HasCached}
-use Rattle.scim_shelf.specs.Stores.{Store}
 use Rattle.scim_shelf.proofs.Facts.{cached_all}
 use Rattle.scim_store_tables.specs.declared.versions.Version.{Version}
 use Rattle.scim_store_tables.specs.declared.versions.Version.TheVariants.{Two}
@@ -33,7 +32,7 @@ use Rattle.scim_store_tables.specs.Reading.{columns_cmp, shown_in}
 use Rattle.scim_store_tables.specs.Whole.{AreRowsOf}
 use Rattle.scim_store_tables.specs.declared.database_kinds.TableRows.{TableRows}
 use Rattle.scim_store_tables.proofs.Facts.{order_rising, rows_of}
-use Rattle.scim_store_rows.specs.Stands.{Entry, IsEntry, StandsForIn, resource_row, secret_rows, lists_of}
+use Rattle.scim_store_rows.specs.Stands.{Entry, IsEntry, resource_row, secret_rows, lists_of}
 use Rattle.scim_store_rows.proofs.Facts.{contents, own, resources_rise}
 use Rattle.scim_store.specs.Owners.{is_of}
 use Rattle.scim_store.specs.Damage.{IsEntryIn}

@@ -13,7 +13,7 @@ use Rattle.std.proofs.lemmas.Cmp.{tied_itself, nat_list_cmp_total}
 use Rattle.std.proofs.lemmas.List.{append-nil, nil_from_length}
 use Rattle.std.proofs.lemmas.List.Elements.{All-nil, All-cons, All-head, All-from_recursion, All-weaker, recursion_from_All}
 use Rattle.std.proofs.lemmas.List.Kept.{AllPairs-cons}
-use Rattle.std.proofs.lemmas.List.Sorted.{IsPermutation-sym, IsPermutation-trans, IsPermutation-map, length_permutation, list_any-IsPermutation}
+use Rattle.std.proofs.lemmas.List.Sorted.{IsPermutation-sym, IsPermutation-trans, length_permutation, list_any-IsPermutation}
 use Rattle.std.proofs.lemmas.Map.Keys.{sorted_head, sorted_tail, IsDistinct-IsPermutation}
 use Rattle.std.proofs.lemmas.Map.Text.{is_eq-slice_cmp}
 use Rattle.std.proofs.lemmas.Slice.Eq.{bytes_eq-Decides}
@@ -29,10 +29,9 @@ use Rattle.scim_store_tables.specs.declared.versions.Version.{Version}
 use Rattle.scim_store_tables.specs.Lists.{secret_values}
 use Rattle.scim_store_tables.specs.Reading.{DoNotFall, columns_cmp, owner_first, group_first}
 use Rattle.scim_store_tables.proofs.Facts.{order_rising}
-use Rattle.scim_value.specs.Uniqueness.{unique_names}
 use Rattle.scim_store.specs.Damage.{Tables, IsEntryIn, AreThoseOf, HoldsAt, rows_at}
 use Rattle.scim_store.specs.Owners.{is_of}
-use Rattle.scim_store_rows.specs.Stands.{Entry, IsEntry, resource_row, name_row, name_rows, member_row, member_rows, secret_rows}
+use Rattle.scim_store_rows.specs.Stands.{Entry, IsEntry, resource_row, name_rows, member_row, member_rows, secret_rows}
 use Rattle.scim_store.specs.code.Damage.{owned_names, owned_member, owned_code, IsRowOf, HasRows, HasCode, AreOfOne}
 use Rattle.scim_store.proofs.OrderLemmas.{ordered_rise, owned_permuted}
 use Rattle.scim_store.proofs.SoundLemmas.{few_keyed}

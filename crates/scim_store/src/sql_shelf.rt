@@ -6,7 +6,7 @@ ghost use Rattle.std.specs.Option.{option_copied};
 ghost use Rattle.sqlite.specs.Effect.{Database};
 ghost use Rattle.sqlite.specs.declared.error.Error.{Error};
 ghost use Rattle.sqlite.specs.declared.error.ErrorCode.{ErrorCode};
-ghost use Rattle.sqlite.specs.State.{HasCleanDisk, Survives};
+ghost use Rattle.sqlite.specs.State.{HasCleanDisk, IsUnchanged, Survives};
 ghost use Rattle.sqlite.specs.Held.{state};
 ghost use Rattle.scim_text.specs.declared.memory.Failed.{Failed};
 ghost use Rattle.scim_shelf.specs.declared.faults.ShelfFault.{ShelfFault};
@@ -267,6 +267,15 @@ impl<S: Alter> SqlShelf<S> {
         }
     }
 
+    /// Returns the number of audit rows, 2^63 - 1 at most.
+    pub fn audit_count(&self) -> u64
+        ensures count { (store : Store) → ⟦<SqlShelf<S> as Shelf>⟧.stands self.now store
+            → result ≡ length store.audit }
+        ensures bounded { result ≤ last_number }
+    {
+        self.rows
+    }
+
     /// Returns at most `count` audit rows from number `from` on, in order. The first row has number 1, and 0
     /// counts as 1. The refusal `BadMethod` is returned with the methods of a collection, since the methods
     /// of the requested endpoint aren't stored.
@@ -282,6 +291,10 @@ impl<S: Alter> SqlShelf<S> {
         ensures answer { IfOk result (Answers ⟦<SqlShelf<S> as Shelf>⟧.stands
             ⟦<SqlShelf<S> as Shelf>⟧.is_honest self.old self.new
             (λ store rows. AreRowsFrom from count store rows.items)) }
+        ensures unchanged { IfOk result (Answers ⟦<SqlShelf<S> as Shelf>⟧.stands
+            ⟦<SqlShelf<S> as Shelf>⟧.is_honest self.old self.new
+            (λ _ _. IsUnchanged (state S.Store (connection_of self.old))
+            (state S.Store (connection_of self.new)))) }
         ensures read { OnlyReads ⟦<SqlShelf<S> as Shelf>⟧.stands
             ⟦<SqlShelf<S> as Shelf>⟧.is_honest ⟦<SqlShelf<S> as Shelf>⟧.failures
             self.old self.new result }

@@ -1,4 +1,4 @@
-use Rattle.std.proofs.Common.{◌≡◌, ◌∙◌, sym, ap, subst, true, false}
+use Rattle.std.proofs.Common.{◌∙◌, sym, ap, subst, true, false}
 use Rattle.std.specs.Prelude.{All}
 use Rattle.scim_store.specs.Owners.{HasOwner}
 use Rattle.scim_store.specs.Damage.{Tables}

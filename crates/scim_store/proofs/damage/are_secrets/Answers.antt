@@ -1,6 +1,5 @@
-use Rattle.std.proofs.Common.{◌≡◌, ◌∙◌, sym, ap, true, List, Option, Bor, ℕ, [], ◌∷◌}
+use Rattle.std.proofs.Common.{◌≡◌, ◌∙◌, sym, ap, List, Option, Bor, ℕ, [], ◌∷◌}
 use Rattle.std.specs.Option.{option_copied}
-use Rattle.sqlite.specs.Order.{Row}
 use Rattle.scim_store_tables.specs.Lists.{secret_values}
 use Rattle.scim_store.specs.code.Damage.{owned_code}
 use Rattle.scim_store.proofs.DamageLemmas.{one_pair, pair_there}

@@ -1,7 +1,7 @@
-use Rattle.std.proofs.Common.{◌≡◌, sym, ◌∙◌, ap, subst, true, false, map}
+use Rattle.std.proofs.Common.{◌≡◌, sym, ◌∙◌, ap, true, false, map}
 use Rattle.scim_cell.specs.Ids.{id_text}
 use Rattle.scim_value.specs.Uniqueness.{name_of}
-use Rattle.scim_store.specs.code.Damage.{owned_name, owned_member, owned_code, ordered_names}
+use Rattle.scim_store.specs.code.Damage.{owned_name, owned_member, ordered_names}
 use Rattle.scim_store.proofs.DamageLemmas.{same_rising}
 use Rattle.scim_store.proofs.damage.has_rows.Goals as goal
 

@@ -3,7 +3,6 @@ use Rattle.std.specs.Prelude.{IsUtf8}
 use Rattle.std.specs.Option.{option_copied}
 use Rattle.sqlite.specs.declared.types.Value.TheVariants.{Text}
 use Rattle.sqlite.specs.Order.{column}
-use Rattle.scim_cell.specs.Content.{Content}
 use Rattle.scim_store_rows.specs.AuditBack.{ReadsBack}
 use Rattle.scim_store_rows.specs.Stands.{MayHave}
 use Rattle.scim_store.proofs.DamageLemmas.{row_is, no_other, the_one, no_document}

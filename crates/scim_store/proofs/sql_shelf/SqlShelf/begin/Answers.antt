@@ -1,4 +1,4 @@
-use Rattle.std.proofs.Common.{◌≡◌, subst, sym, IsTrue}
+use Rattle.std.proofs.Common.{subst, sym, IsTrue}
 use Rattle.sqlite.specs.Held.{state}
 use Rattle.sqlite.specs.State.{HasCleanDisk, Survives}
 use Rattle.scim_store_tables.specs.Steps.{Leaves}
