@@ -1,0 +1,6 @@
+pub mod Facts
+mod FilteredLemmas
+mod JsonLemmas
+mod ListingLemmas
+mod MarkLemmas
+mod PlainLemmas

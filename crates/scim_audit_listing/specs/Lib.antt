@@ -1,0 +1,4 @@
+pub mod Filters
+pub mod JsonRows
+pub mod Listings
+pub mod RefusalNames
