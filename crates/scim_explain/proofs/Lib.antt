@@ -5,3 +5,5 @@ pub mod PartLemmas
 pub mod TurnLemmas
 pub mod CoverLemmas
 pub mod IdleLemmas
+pub mod InquiryLemmas
+pub mod TableLemmas

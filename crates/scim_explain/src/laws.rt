@@ -1,5 +1,6 @@
-//! Laws about explanations and idle rules.
+//! Laws about explanations, tables and idle rules.
 ghost use Rattle.scim_explain.specs.Laws as law;
+ghost use Rattle.scim_explain.specs.TableLaws as tables;
 
 /// An explanation has exactly one entry for each rule before the one that decided, or for each rule if
 /// none decided.
@@ -17,6 +18,19 @@ pub fn each_earlier_rule_has_its_entry()
 pub fn explanations_tell_the_pattern()
     ensures reading { law.TellsThePattern }
     ensures others { law.DecidesNothingElseInPart }
+{}
+
+/// A table says what the server does: a line ends in `allow` exactly where the operation is granted, which is where
+/// the service asks for nothing more.
+///
+/// A client that sees the resource reads what it may read and what isn't writeOnly; it modifies the units that aren't
+/// readOnly and that [`scim_policy::Policy::may_write`] lets it write; and it deletes the resource if it may delete at
+/// `id`. A body creates a resource with a unit if the client may create at `id` and at each leaf of the unit.
+pub fn tables_tell_what_is_done()
+    ensures read { tables.TellsWhatIsRead }
+    ensures modify { tables.TellsWhatIsModified }
+    ensures create { tables.TellsWhatIsCreated }
+    ensures delete { tables.TellsWhatIsDeleted }
 {}
 
 /// A rule that `idle_rules` returns never decides, for any client, operation, resource and leaf: neither on
