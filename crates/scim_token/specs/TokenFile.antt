@@ -1,6 +1,6 @@
 -- Token files: the clients' bearer tokens, as SHA-256 digests.
-use Rattle.std.specs.Prelude.{ℕ, ◌+◌, ◌==◌, nat_eq, Bool, true, List, [], ◌∷◌, ◌++◌, length, find, Option, None, Some, option_map, Result, Ok, Err, if◌then◌else◌}
-use Rattle.std.specs.List.{list_any, position_or_len, before_first, after_first, slice_split}
+use Rattle.std.specs.Prelude.{ℕ, ◌+◌, ◌==◌, nat_eq, Bool, true, false, List, [], ◌∷◌, ◌++◌, length, find, Option, None, Some, option_map, Result, Ok, Err, if◌then◌else◌}
+use Rattle.std.specs.List.{list_any, position, position_or_len, before_first, after_first, slice_split}
 use Rattle.std.specs.Cmp.Lexicographic.{pointwise}
 use Rattle.std.specs.Result.{result_ok}
 use Rattle.hex.specs.Hex.{decode_sized}
@@ -81,3 +81,16 @@ entries_in text = entries_from 1 [] (slice_split is_line_feed text)
 -- the client that has the token with this digest; `None` if no client has it
 abbrev pub client_with : List Entry → List ℕ → Option (List ℕ)
 client_with entries digest = option_map (λ e. e.client) (find (has_digest digest) entries)
+
+-- whether one of the entries `known` has the digest of this entry; a faulty line has none
+abbrev pub is_known : List Entry → Result Entry LineFault → Bool
+is_known known (Ok e) = list_any (has_digest e.digest) known
+is_known known (Err fault) = false
+
+-- whether the line has the digest of one of the entries `known`
+abbrev pub is_shared : List Entry → List ℕ → Bool
+is_shared known line = if says_nothing line then false else is_known known (entry_in line)
+
+-- the number of the first line of a token file that has the digest of one of the entries `known`
+abbrev pub first_shared : List Entry → List ℕ → Option ℕ
+first_shared known text = option_map (λ before. before + 1) (position (is_shared known) (slice_split is_line_feed text))

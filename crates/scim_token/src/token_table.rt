@@ -1,5 +1,5 @@
 //! The table of the clients' tokens.
-ghost use Rattle.std.specs.Prelude.{◌≡◌, List, [], Ok, Err, OnOk, map};
+ghost use Rattle.std.specs.Prelude.{◌≡◌, List, [], Ok, Err, OnOk, length, map};
 ghost use Rattle.std.specs.Option.{option_map, option_copied};
 ghost use Rattle.sha2.specs.Sha256.{sha256};
 ghost use Rattle.scim_text.specs.Failures.{UnlessMemory, IfFault};
@@ -66,6 +66,37 @@ impl Tokens {
     {
         let digest = Digest::of(token);
         self.clients.get(&digest).map(|client| client.as_str())
+    }
+
+    /// Returns the number of tokens.
+    pub fn count(&self) -> usize
+        ensures { (entries : List Entry) → Knows entries self.now → result ≡ length entries }
+    {
+        self.clients.len()
+    }
+
+    /// Returns the number, from 1, of the first line of a token file that has the digest of one of these tokens.
+    /// Returns `None` if there is none; a line that is empty, a comment or faulty has no digest.
+    pub fn first_shared(&self, text: &str) -> Option<usize>
+        ensures { (entries : List Entry) → Knows entries self.now
+            → result ≡ spec.first_shared entries text.now }
+    {
+        let before = text.split('\n').position(|line| self.shares(line))?;
+        Some(before + 1)
+    }
+
+    /// Whether the line has the digest of one of these tokens.
+    fn shares(&self, line: &str) -> bool
+        ensures { (entries : List Entry) → Knows entries self.now
+            → result ≡ spec.is_shared entries line.now }
+    {
+        if says_nothing(line) {
+            return false;
+        }
+        match read_line(line) {
+            Ok(entry) => self.clients.contains_key(&entry.digest),
+            Err(_) => false,
+        }
     }
 
     /// Reads a line and adds its entry. Ignores a line that is empty or a comment.
