@@ -4,6 +4,7 @@ use Rattle.std.specs.Option.{option_copied}
 use Rattle.std.specs.Int.{w128, to_be_bytes, from_be_bytes}
 use Rattle.sha2.specs.Sha256.{sha256}
 use Rattle.scim_audit.specs.declared.refusals.Refusal.{Refusal}
+use Rattle.scim_audit.specs.declared.refusals.Refusal.TheVariants.{NoToken}
 use Rattle.scim_audit.specs.Refusals.{closes}
 use Rattle.scim_policy.specs.Rules.{Rule}
 use Rattle.scim_shelf.specs.Stores.{Store}
@@ -51,6 +52,11 @@ abbrev pub closes_by_itself : Answer → Bool
 closes_by_itself (Refused refusal) = closes refusal
 closes_by_itself (Page page) = false
 closes_by_itself (Served reply) = is_closing (refusal_of reply)
+
+-- whether the answer refuses the message because no client has its token
+abbrev pub refuses_token : Answer → Bool
+refuses_token (Refused NoToken) = true
+refuses_token _ = false
 
 -- the reply to the message has this text, `closing` is whether the reply closes the connection, and `next` is
 -- the store after the reply

@@ -11,6 +11,7 @@ ghost use Rattle.scim_hub.specs.code.Replies.{Says, IsReplyToItem, IsReplyToMess
 ghost use Rattle.scim_service.specs.Setting.{service_base, service_policy, service_shelf, KeepsSetting};
 
 use crate::events::{Output, Stamp};
+use scim_audit::Refusal;
 use scim_cell::{Id, id_of, uuid_of};
 use scim_exchange::{Answer, Arrival, answer};
 use scim_route::Routes;
@@ -31,6 +32,8 @@ struct Reply {
     text: String,
     /// Whether the connection closes after the reply.
     closes: bool,
+    /// Whether the message was refused because no client has its token.
+    refuses_token: bool,
 }
 
 /// The replies to the items of an event.
@@ -39,6 +42,8 @@ pub(crate) struct Replies {
     pub(crate) outputs: Vec<Output>,
     /// Whether the connection closes after the replies.
     pub(crate) closed: bool,
+    /// The number of messages that were refused because no client has their token.
+    pub(crate) refused: u64,
 }
 
 /// Returns the id with the number of `first` plus `count`, modulo 2^128.
@@ -89,6 +94,13 @@ fn closes_by_itself(answer: &Answer) -> bool
     }
 }
 
+/// Whether the answer refuses the message because no client has its token.
+fn refuses_token(answer: &Answer) -> bool
+    ensures { result ≡ spec.refuses_token answer.now }
+{
+    matches!(answer, Answer::Refused(Refusal::NoToken))
+}
+
 /// Returns the reply for an answer, printed in the given form. The reply closes the connection if the form
 /// says so, or if the answer is a refusal that closes the connection.
 fn reply_with(alloc: Global, answer: &Answer, form: ReplyForm) -> Result<Reply, NoMemory>
@@ -97,7 +109,11 @@ fn reply_with(alloc: Global, answer: &Answer, form: ReplyForm) -> Result<Reply, 
 {
     let text = answer.text(alloc, form)?;
     let closes = form.closes || closes_by_itself(answer);
-    Ok(Reply { text, closes })
+    Ok(Reply {
+        text,
+        closes,
+        refuses_token: refuses_token(answer),
+    })
 }
 
 /// Returns the reply 100 (Continue).
@@ -109,6 +125,7 @@ fn continue_reply(alloc: Global) -> Result<Reply, NoMemory>
     Ok(Reply {
         text,
         closes: false,
+        refuses_token: false,
     })
 }
 
@@ -209,15 +226,22 @@ pub(crate) fn answer_items<S: Shelf>(
 {
     let mut outputs = Vec::new(alloc);
     let mut count = 0;
+    let mut refused: u64 = 0;
     for item in items {
         let reply = answer_item(alloc, routes, service, tokens, stamp, count, item)?;
-        let Reply { text, closes } = reply;
+        let Reply {
+            text,
+            closes,
+            refuses_token,
+        } = reply;
+        refused = refused.saturating_add(u64::from(refuses_token));
         push(&mut outputs, Output::Write(connection, text))?;
         if closes {
             push(&mut outputs, Output::Shut(connection))?;
             return Ok(Replies {
                 outputs,
                 closed: true,
+                refused,
             });
         }
         count += whole_count(item);
@@ -225,5 +249,6 @@ pub(crate) fn answer_items<S: Shelf>(
     Ok(Replies {
         outputs,
         closed: false,
+        refused,
     })
 }

@@ -1,5 +1,6 @@
 //! The hub, which serves many connections with one service.
-ghost use Rattle.std.specs.Prelude.{◌≡◌, List, IfOk, OnErr, map};
+ghost use Rattle.std.specs.Prelude.{◌≡◌, ◌≤◌, List, IfOk, OnErr, map};
+ghost use Rattle.std.specs.Borrow.{Lends, sem};
 ghost use Rattle.scim_token.specs.TokenFile.{Entry};
 ghost use Rattle.scim_token.specs.Tokens.{Knows};
 ghost use Rattle.scim_shelf.specs.Stores.{Store, IsStore};
@@ -7,11 +8,13 @@ ghost use Rattle.scim_hub.specs.Events.{HubState, Hears, Runs, none_joined};
 ghost use Rattle.scim_hub.specs.HubStates.{IsHubState, event_of, done};
 ghost use Rattle.scim_hub.specs.code.Changes.{TakesPiece};
 ghost use Rattle.scim_service.specs.Setting.{service_base, service_shelf};
-ghost use Rattle.scim_hub.specs.HubSetting.{hub_base, hub_policy, hub_shelf, hub_tokens, KeepsHubSetting};
+ghost use Rattle.scim_hub.specs.HubSetting.{hub_base, hub_policy, hub_shelf, hub_tokens, refused_tokens_of, with_hub_shelf, with_hub_setting, KeepsHubSetting};
+ghost use Rattle.scim_hub.specs.contracts.hubs.Hub.{the_row};
 
 use crate::answering::{Replies, answer_items};
 use crate::connections::Connections;
 use crate::events::{Event, EventKind, HubFault, Output, Stamp};
+use scim_policy::Policy;
 use scim_route::Routes;
 use scim_service::Service;
 use scim_shelf::Shelf;
@@ -29,6 +32,8 @@ pub struct Hub<S> {
     service: Service<S>,
     tokens: Tokens,
     connections: Connections,
+    /// The number of messages that were refused because no client has their token, 2^64 - 1 at most.
+    refused: u64,
 }
 
 impl<S: Drop> Drop for Hub<S> {
@@ -38,6 +43,7 @@ impl<S: Drop> Drop for Hub<S> {
             service: _service,
             tokens: _tokens,
             connections: _connections,
+            refused: _,
         } = self;
     }
 }
@@ -50,12 +56,14 @@ impl<S: Shelf> Hub<S> {
         ensures state { (store : Store) → S.stands (service_shelf service) store
             → IsStore (service_base service) store
             → IsHubState S.stands result (none_joined store) }
+        ensures refused { refused_tokens_of result ≡ 0 }
     {
         Hub {
             routes,
             service,
             tokens,
             connections: Connections::new(alloc),
+            refused: 0,
         }
     }
 
@@ -80,6 +88,7 @@ impl<S: Shelf> Hub<S> {
             × Hears (hub_policy self.old) (hub_base self.old) entries (event_of event.now) state
             (done result) next }
         ensures honest { S.is_honest (hub_shelf self.new) → S.is_honest (hub_shelf self.old) }
+        ensures refused { refused_tokens_of self.old ≤ refused_tokens_of self.new }
     {
         match event.kind {
             EventKind::Joined => {
@@ -114,6 +123,7 @@ impl<S: Shelf> Hub<S> {
             × TakesPiece (hub_policy self.old) (hub_base self.old) entries stamp.now connection
             piece.now state (done result) next }
         ensures honest { S.is_honest (hub_shelf self.new) → S.is_honest (hub_shelf self.old) }
+        ensures refused { refused_tokens_of self.old ≤ refused_tokens_of self.new }
     {
         let items = self.connections.feed(alloc, connection, piece)?;
         match answer_items(
@@ -129,12 +139,23 @@ impl<S: Shelf> Hub<S> {
                 Replies {
                     outputs,
                     closed: true,
+                    refused,
                 },
             ) => {
+                self.refused = self.refused.saturating_add(refused);
                 self.connections.shut(connection);
                 Ok(outputs)
             }
-            Ok(Replies { outputs, .. }) => Ok(outputs),
+            Ok(
+                Replies {
+                    outputs,
+                    refused,
+                    ..
+                },
+            ) => {
+                self.refused = self.refused.saturating_add(refused);
+                Ok(outputs)
+            }
             Err(NoMemory) => {
                 self.connections.shut(connection);
                 Err(HubFault::NoMemory)
@@ -169,11 +190,47 @@ impl<S: Shelf> Hub<S> {
         Ok(results)
     }
 
+    /// Returns the policy.
+    pub fn policy(&self) -> &Policy
+        ensures { result.now ≡ hub_policy self.now }
+    {
+        self.service.policy()
+    }
+
+    /// Replaces the policy and the clients' tokens. The connections stay as they are, and the messages that
+    /// come next are answered by the new policy, on behalf of the clients that have the new tokens.
+    pub fn reload(&mut self, policy: Policy, tokens: Tokens)
+        ensures reloaded { self.new ≡ with_hub_setting self.old policy tokens }
+        ensures state { (state : HubState) → IsHubState S.stands self.old state
+            → IsHubState S.stands self.new state }
+    {
+        self.service.set_policy(policy);
+        self.tokens = tokens;
+    }
+
+    /// Returns the number of messages that were refused because no client has their token, 2^64 - 1 at most.
+    /// Messages whose replies were lost to `NoMemory` aren't counted.
+    pub fn refused_tokens(&self) -> u64
+        ensures { result ≡ refused_tokens_of self.now }
+    {
+        self.refused
+    }
+
     /// Returns the service.
     pub fn service(&self) -> &Service<S>
         ensures { result.now ≡ self.now.service }
     {
         &self.service
+    }
+
+    /// Returns the shelf of the service, to read what no request tells, such as audit rows. A change that is
+    /// made through this reference is made without the policy and without an audit row.
+    pub fn shelf_mut(&mut self) -> &mut S
+        ensures* writes_back { sem 𝓛
+            (Lends (the_row S.row) S.row self.entry result (λ shelf. with_hub_shelf self.old shelf)) }
+        ensures shows { result.now ≡ hub_shelf self.old }
+    {
+        self.service.shelf_mut()
     }
 
     /// Returns the service, and drops the connections.
@@ -185,6 +242,7 @@ impl<S: Shelf> Hub<S> {
             service,
             tokens: _tokens,
             connections: _connections,
+            refused: _,
         } = self;
         service
     }
