@@ -1,7 +1,9 @@
 -- The state of scripted connections, and the events reported.
-use Rattle.std.specs.Prelude.{ℕ, ◌==◌, Bool, true, false, List, [], map, take, Option, None, Some, if◌then◌else◌}
+use Rattle.std.specs.Prelude.{ℕ, ◌==◌, Bool, true, false, List, [], take, Option, None, Some, Ok, if◌then◌else◌}
+use Rattle.std.specs.List.{flat_map}
 use Rattle.scim_hub.specs.Events.{HubEvent}
-use Rattle.scim_hub.specs.HubStates.{owned_event_of}
+use Rattle.scim_serve.specs.Peers.{told_by}
+use Rattle.scim_serve.specs.declared.peers.PeerEvent.{PeerEvent}
 use Rattle.case_peers.specs.declared.scripted_peers.ScriptedPeer.{ScriptedPeer}
 use Rattle.case_peers.specs.declared.scripted_peers.ScriptedPeers.{ScriptedPeers}
 
@@ -24,6 +26,10 @@ abbrev pub is_closed : Option ScriptedPeer → Bool
 is_closed None = true
 is_closed (Some peer) = peer.is_closed
 
--- the events reported so far
+-- the event for the hub in what the connections report, if any
+abbrev pub heard_in : PeerEvent → List HubEvent
+heard_in event = told_by (Ok (Some event))
+
+-- the events for the hub that were reported so far
 abbrev pub reported : ScriptedPeers → List HubEvent
-reported peers = map owned_event_of (take peers.reported peers.script.items)
+reported peers = flat_map heard_in (take peers.reported peers.script.items)

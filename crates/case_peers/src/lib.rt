@@ -4,4 +4,4 @@
 
 mod scripted_peers;
 
-pub use scripted_peers::{ScriptedPeer, ScriptedPeers};
+pub use scripted_peers::{ScriptedEvent, ScriptedPeer, ScriptedPeers};

@@ -1,9 +1,10 @@
 //! Connections in memory whose events come from a script.
 ghost use Rattle.std.specs.Prelude.{◌≡◌, ◌≤◌, ◌++◌, ◌==◌, IfOk, length, take, true};
 ghost use Rattle.scim_hub.specs.HubStates.{owned_event_of};
+ghost use Rattle.case_peers.specs.Peers.{heard_in};
 
 use scim_hub::{OwnedEvent, OwnedEventKind, Stamp};
-use scim_serve::{PeerEvent, Peers, PeersFault};
+use scim_serve::{AdminEvent, AdminEventKind, Figures, Note, PeerEvent, Peers, PeersFault};
 use std::alloc::{AllocError, Global};
 
 /// A connection in memory.
@@ -45,11 +46,25 @@ impl ScriptedPeer {
     }
 }
 
-/// Two connections with the numbers 0 and 1, which take at most `step` bytes at a call of `write`.
+/// An event of a script.
+#[derive(Clone, Copy)]
+pub enum ScriptedEvent<'a> {
+    /// The client's connection with this number joins.
+    Joins(u64),
+    /// These bytes arrive on the client's connection with this number.
+    Sends(u64, &'a str),
+    /// These bytes arrive on the connection of the administrator, which has the number 0.
+    Administers(&'a str),
+    /// A second passes.
+    Ticks,
+}
+
+/// Two connections of clients with the numbers 0 and 1, which take at most `step` bytes at a call of `write`,
+/// and one of the administrator, which takes all bytes.
 #[derive(Drop)]
 pub struct ScriptedPeers {
     /// The events, in order.
-    script: Vec<OwnedEvent>,
+    script: Vec<PeerEvent>,
     /// The number of events reported so far.
     reported: usize,
     /// The connections that took fewer bytes than they were offered and may take more. The last of them is
@@ -58,29 +73,48 @@ pub struct ScriptedPeers {
     step: usize,
     /// Whether the last call of `next` reported the end of the events.
     is_over: bool,
+    /// Whether `stop` was called. Then `next` reports no more events of the script.
+    is_stopped: bool,
     /// Connection 0.
     pub first: ScriptedPeer,
     /// Connection 1.
     pub second: ScriptedPeer,
+    /// The connection of the administrator.
+    pub admin: ScriptedPeer,
+    /// The number of messages that were noted as refused for their token, 2^64 - 1 at most.
+    refused_tokens: u64,
 }
 
-/// Returns the event in which these bytes arrive on a connection. If there are no bytes, returns the event in
-/// which the connection joins.
-fn event_of(alloc: Global, connection: u64, bytes: &str) -> Result<OwnedEvent, AllocError> {
-    let kind = if bytes.is_empty() {
-        OwnedEventKind::Joined
-    } else {
-        OwnedEventKind::Piece(Vec::from_slice(alloc, bytes.as_bytes())?)
-    };
-    Ok(OwnedEvent {
+/// Returns the event of a client's connection.
+fn client_event(connection: u64, kind: OwnedEventKind) -> PeerEvent {
+    PeerEvent::Event(OwnedEvent {
         connection,
         stamp: Stamp::unused(),
         kind,
     })
 }
 
-/// Copies an event.
-fn copy_of(alloc: Global, event: &OwnedEvent) -> Result<OwnedEvent, AllocError>
+/// Returns what the connections report for an event of a script.
+fn event_of(alloc: Global, event: ScriptedEvent<'_>) -> Result<PeerEvent, AllocError> {
+    Ok(match event {
+        ScriptedEvent::Joins(connection) => client_event(connection, OwnedEventKind::Joined),
+        ScriptedEvent::Sends(connection, bytes) => {
+            let piece = Vec::from_slice(alloc, bytes.as_bytes())?;
+            client_event(connection, OwnedEventKind::Piece(piece))
+        }
+        ScriptedEvent::Administers(bytes) => {
+            let piece = Vec::from_slice(alloc, bytes.as_bytes())?;
+            PeerEvent::Admin(AdminEvent {
+                connection: 0,
+                kind: AdminEventKind::Piece(piece),
+            })
+        }
+        ScriptedEvent::Ticks => PeerEvent::Tick,
+    })
+}
+
+/// Copies an event of a client's connection.
+fn client_copy(alloc: Global, event: &OwnedEvent) -> Result<OwnedEvent, AllocError>
     ensures { IfOk result (λ copy. owned_event_of copy ≡ owned_event_of event.now) }
 {
     let kind = match &event.kind {
@@ -97,17 +131,44 @@ fn copy_of(alloc: Global, event: &OwnedEvent) -> Result<OwnedEvent, AllocError>
     })
 }
 
+/// Copies an event of a connection of the administrator.
+fn admin_copy(alloc: Global, event: &AdminEvent) -> Result<AdminEvent, AllocError> {
+    let kind = match &event.kind {
+        AdminEventKind::Joined => AdminEventKind::Joined,
+        AdminEventKind::Piece(bytes) => {
+            AdminEventKind::Piece(Vec::from_slice(alloc, bytes.as_slice())?)
+        }
+        AdminEventKind::Ready => AdminEventKind::Ready,
+        AdminEventKind::Left => AdminEventKind::Left,
+    };
+    Ok(AdminEvent {
+        connection: event.connection,
+        kind,
+    })
+}
+
+/// Copies what the connections report.
+fn copy_of(alloc: Global, event: &PeerEvent) -> Result<PeerEvent, AllocError>
+    ensures { IfOk result (λ copy. heard_in copy ≡ heard_in event.now) }
+{
+    Ok(match event {
+        PeerEvent::Event(event) => PeerEvent::Event(client_copy(alloc, event)?),
+        PeerEvent::Ready(connection) => PeerEvent::Ready(*connection),
+        PeerEvent::Admin(event) => PeerEvent::Admin(admin_copy(alloc, event)?),
+        PeerEvent::Tick => PeerEvent::Tick,
+    })
+}
+
 impl ScriptedPeers {
-    /// Returns connections with these events, in order. An event is the number of a connection and the bytes
-    /// that arrive on it. If there are no bytes, the connection joins.
+    /// Returns connections with these events, in order.
     pub fn new(
         alloc: Global,
         step: usize,
-        events: &[(u64, &str)],
+        events: &[ScriptedEvent<'_>],
     ) -> Result<ScriptedPeers, AllocError> {
         let mut script = Vec::new(alloc);
-        for (connection, bytes) in events {
-            script.push(event_of(alloc, *connection, *bytes)?)?;
+        for event in events {
+            script.push(event_of(alloc, *event)?)?;
         }
         Ok(ScriptedPeers {
             script,
@@ -115,8 +176,11 @@ impl ScriptedPeers {
             ready: Vec::new(alloc),
             step,
             is_over: false,
+            is_stopped: false,
             first: ScriptedPeer::new(alloc),
             second: ScriptedPeer::new(alloc),
+            admin: ScriptedPeer::new(alloc),
+            refused_tokens: 0,
         })
     }
 }
@@ -142,6 +206,10 @@ impl Peers for ScriptedPeers {
         if let Some(connection) = self.ready.pop() {
             return Ok(Some(PeerEvent::Ready(connection)));
         }
+        if self.is_stopped {
+            self.is_over = true;
+            return Ok(None);
+        }
         let Some(event) = self.script.as_slice().get(self.reported) else {
             self.is_over = true;
             return Ok(None);
@@ -149,7 +217,7 @@ impl Peers for ScriptedPeers {
         match copy_of(alloc, event) {
             Ok(event) => {
                 self.reported += 1;
-                Ok(Some(PeerEvent::Event(event)))
+                Ok(Some(event))
             }
             Err(_) => Err(PeersFault),
         }
@@ -173,6 +241,47 @@ impl Peers for ScriptedPeers {
             0 => self.first.is_closed = true,
             1 => self.second.is_closed = true,
             _ => (),
+        }
+    }
+
+    fn write_to_admin(&mut self, connection: u64, bytes: &[u8]) -> usize {
+        match connection {
+            0 => self.admin.take(bytes, usize::MAX),
+            _ => 0,
+        }
+    }
+
+    fn close_admin(&mut self, connection: u64) {
+        if connection == 0 {
+            self.admin.is_closed = true;
+        }
+    }
+
+    fn stop(&mut self) {
+        self.is_stopped = true;
+    }
+
+    fn note(&mut self, note: Note) {
+        match note {
+            Note::RefusedTokens { count, .. } => {
+                self.refused_tokens = self.refused_tokens.saturating_add(count);
+            }
+            Note::NoMemory(_) => (),
+        }
+    }
+
+    fn figures(&self) -> Figures {
+        Figures {
+            clients: 2,
+            admins: 1,
+            accepted: 2,
+            bytes_waiting: 0,
+            late_heads: 0,
+            late_messages: 0,
+            late_replies: 0,
+            gave_way: 0,
+            over_memory: 0,
+            refused_tokens: self.refused_tokens,
         }
     }
 }

@@ -2,6 +2,9 @@ pub mod AbsentLemmas
 pub mod ClosingLemmas
 pub mod EventLemmas
 pub mod FitLemmas
+pub mod LawLemmas
 pub mod LevelLemmas
+pub mod OccurrenceLemmas
+pub mod ReachedLemmas
 pub mod ServedLemmas
 pub mod WholeLemmas

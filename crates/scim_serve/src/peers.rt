@@ -7,21 +7,81 @@ use scim_hub::OwnedEvent;
 use std::alloc::Global;
 use thiserror::Error;
 
-/// An event that the connections report.
-pub enum PeerEvent {
-    /// An event for the hub.
-    Event(OwnedEvent),
-    /// The connection with this number took fewer bytes than it was offered, and may take more now.
-    Ready(u64),
+/// What occurred on a connection of the administrator.
+pub enum AdminEventKind {
+    /// The connection was opened.
+    Joined,
+    /// The next piece of the connection's stream arrived.
+    Piece(Vec<u8>),
+    /// The connection took fewer bytes than it was offered, and may take more now.
+    Ready,
+    /// The connection has ended.
+    Left,
 }
 
-impl Drop for PeerEvent {
+impl Drop for AdminEventKind {
     fn drop(self) {
         match self {
-            PeerEvent::Event(_event) => (),
-            PeerEvent::Ready(_) => (),
+            AdminEventKind::Joined | AdminEventKind::Ready | AdminEventKind::Left => (),
+            AdminEventKind::Piece(_bytes) => (),
         }
     }
+}
+
+/// An event of a connection of the administrator.
+#[derive(Drop)]
+pub struct AdminEvent {
+    /// The number of the connection. The administrator's connections have numbers of their own, beside those of
+    /// the clients' connections.
+    pub connection: u64,
+    pub kind: AdminEventKind,
+}
+
+/// An event that the connections report.
+#[derive(Drop)]
+pub enum PeerEvent {
+    /// An event of a client's connection, for the hub.
+    Event(OwnedEvent),
+    /// The client's connection with this number took fewer bytes than it was offered, and may take more now.
+    Ready(u64),
+    /// An event of a connection of the administrator.
+    Admin(AdminEvent),
+    /// About a second has passed since the last event of this kind.
+    Tick,
+}
+
+/// Something that the serving of a client's connection met.
+#[derive(Clone, Copy, Debug, PartialEq, Eq)]
+pub enum Note {
+    /// `count` messages of an event of the connection were refused because no client has their token.
+    RefusedTokens { connection: u64, count: u64 },
+    /// Memory ran out for an event of the connection with this number. The connection is closed.
+    NoMemory(u64),
+}
+
+/// How many connections there are, and how many ended in which way since the start.
+#[derive(Clone, Copy, Debug, PartialEq, Eq)]
+pub struct Figures {
+    /// The number of open connections of clients.
+    pub clients: u64,
+    /// The number of open connections of the administrator.
+    pub admins: u64,
+    /// The number of connections of clients that were accepted.
+    pub accepted: u64,
+    /// The number of bytes that were offered to connections and aren't taken yet.
+    pub bytes_waiting: u64,
+    /// The number of connections that were closed because a message's head came too late.
+    pub late_heads: u64,
+    /// The number of connections that were closed because a message came too late.
+    pub late_messages: u64,
+    /// The number of connections that were closed because they took a reply too slowly.
+    pub late_replies: u64,
+    /// The number of idle connections that gave way to new ones.
+    pub gave_way: u64,
+    /// The number of connections that were closed because the bytes of all connections exceed the limit.
+    pub over_memory: u64,
+    /// The number of messages that were refused because no client has their token.
+    pub refused_tokens: u64,
 }
 
 /// The error that ends the serving of all connections: the system can't report events or measure time.
@@ -29,10 +89,13 @@ impl Drop for PeerEvent {
 #[error("the connections can't be served")]
 pub struct PeersFault;
 
-/// Connections that are served on one thread.
+/// Connections that are served on one thread: those of clients and, beside them, those of the administrator.
 ///
-/// A connection that takes fewer bytes than it is offered isn't read until it has taken all of them.
+/// A connection that takes fewer bytes than it is offered isn't read until it has taken all of them. The
+/// contracts describe the connections of clients alone.
 pub trait Peers {
+    ghost use Rattle.scim_serve.specs.Peers.{KeepsClients};
+
     /// Whether the contracts describe the events and the bytes taken. False for the system's sockets.
     ghost is_known: { Bool };
 
@@ -83,4 +146,32 @@ pub trait Peers {
             → takes_all self.old m ≡ true }
         ensures closed { IsTrue is_known → (m : ℕ) → is_closed self.new m
             ≡ (if connection == m then true else is_closed self.old m) };
+
+    /// Offers bytes to a connection of the administrator, and returns the length of the prefix that it took.
+    ///
+    /// The length may be 0, and is 0 if no such connection has the number.
+    fn write_to_admin(&mut self, connection: u64, bytes: &[u8]) -> usize
+        ensures count { result ≤ length bytes.now }
+        ensures clients { IsTrue is_known → KeepsClients seen written takes_all is_closed
+            self.old self.new };
+
+    /// Closes the connection of the administrator with the number, if there is one. `next` reports later that
+    /// it has left.
+    fn close_admin(&mut self, connection: u64)
+        ensures clients { IsTrue is_known → KeepsClients seen written takes_all is_closed
+            self.old self.new };
+
+    /// Accepts no more connections, and closes each one once its request in hand is answered. Then `next`
+    /// returns `None`.
+    fn stop(&mut self)
+        ensures clients { IsTrue is_known → KeepsClients seen written takes_all is_closed
+            self.old self.new };
+
+    /// Takes notice of what the serving of a client's connection met.
+    fn note(&mut self, note: Note)
+        ensures clients { IsTrue is_known → KeepsClients seen written takes_all is_closed
+            self.old self.new };
+
+    /// Returns how many connections there are, and how many ended in which way since the start.
+    fn figures(&self) -> Figures;
 }

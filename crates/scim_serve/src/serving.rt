@@ -1,21 +1,26 @@
 //! The main loop of a server.
-ghost use Rattle.std.specs.Prelude.{◌≡◌, ◌≢◌, ◌<◌, ◌||◌, Bool, Some, ◌==◌, if◌then◌else◌, ◌++◌, ◌∷◌, ℕ, List, [], IsTrue, OnOk, Result, Err, Option, None, IsSome, false, true, map};
+ghost use Rattle.std.specs.Prelude.{◌≡◌, ◌≢◌, ◌<◌, ◌||◌, Bool, Some, ◌==◌, if◌then◌else◌, ◌++◌, ◌∷◌, ℕ, List, [], IsTrue, OnOk, Result, Ok, Err, Option, None, IsSome, false, true, map};
 ghost use Rattle.std.specs.List.{flat_map, list_any};
 ghost use Rattle.scim_token.specs.TokenFile.{Entry};
 ghost use Rattle.scim_token.specs.Tokens.{Knows};
 ghost use Rattle.scim_hub.specs.declared.events.HubFault.{HubFault};
 ghost use Rattle.scim_hub.specs.Events.{HubEvent, absent, shut, HubOutput, HubState, Hears, Runs, joining};
 ghost use Rattle.scim_hub.specs.HubStates.{IsHubState, output_of, done, owned_event_of};
-ghost use Rattle.scim_serve.specs.Serving.{IsFront, text_to, due_for, due, shuts, shut_for, is_shut, leaves, has_left};
+ghost use Rattle.scim_serve.specs.Occurrences.{Occurrence, heard, reloaded, RunsThrough};
+ghost use Rattle.scim_serve.specs.Operators.{is_ended, says_end};
+ghost use Rattle.scim_serve.specs.Peers.{KeepsClients, told_by};
+ghost use Rattle.scim_serve.specs.declared.serving.Ending.{Ending};
+ghost use Rattle.scim_serve.specs.Serving.{AreServed, text_to, due_for, due, shuts, shut_for, is_shut, leaves, has_left};
 ghost use Rattle.scim_serve.specs.code.Closings.{IsMarked, Marks, IsClosing};
 ghost use Rattle.scim_serve.specs.code.Levels.{Fits, IsLevel, Keeps, Grows};
 ghost use Rattle.scim_serve.specs.code.Rests.{finished};
-ghost use Rattle.scim_serve.specs.code.Served.{IsServed};
+ghost use Rattle.scim_serve.specs.code.Served.{IsReached, IsServed, Start};
 ghost use Rattle.scim_serve.specs.code.Waiting.{waiting_for};
 ghost use Rattle.scim_serve.specs.code.Wholes.{AllTaken, StaysOpen};
 ghost use Rattle.scim_hub.specs.HubSetting.{hub_base, hub_policy, hub_shelf, hub_tokens, KeepsHubSetting};
 
-use crate::peers::{PeerEvent, Peers, PeersFault};
+use crate::operators::{Operator, Pause, Then};
+use crate::peers::{Note, PeerEvent, Peers, PeersFault};
 use crate::pending_bytes::Waiting;
 use scim_hub::{Hub, HubFault, Output, OwnedEvent, OwnedEventKind};
 use scim_shelf::Shelf;
@@ -262,6 +267,28 @@ fn settle<P: Peers>(
     }
 }
 
+/// Tells `peers` how many messages of an event of the connection were refused for their token, if any, and
+/// whether memory ran out for the event.
+fn report<P: Peers>(
+    peers: &mut P,
+    connection: u64,
+    refused: u64,
+    answer: &Result<Vec<Output>, HubFault>,
+)
+    ensures { IsTrue P.is_known → KeepsClients P.seen P.written P.takes_all P.is_closed
+        peers.old peers.new }
+{
+    if refused > 0 {
+        peers.note(Note::RefusedTokens {
+            connection,
+            count: refused,
+        });
+    }
+    if matches!(answer, Err(HubFault::NoMemory)) {
+        peers.note(Note::NoMemory(connection));
+    }
+}
+
 /// Passes an event to the hub, and carries out the hub's answer.
 fn hear<P: Peers, S: Shelf>(
     alloc: Global,
@@ -287,52 +314,110 @@ fn hear<P: Peers, S: Shelf>(
         (λ m. due m ++ due_for m result) (λ m. shut m || shut_for m result)) }
     ensures honest { S.is_honest (hub_shelf hub.new) → S.is_honest (hub_shelf hub.old) }
 {
+    let refused = hub.refused_tokens();
     prepare(alloc, peers, waiting, event);
     let answer = hub.event(alloc, &event.event());
     settle(peers, waiting, event.connection, &answer);
+    report(
+        peers,
+        event.connection,
+        hub.refused_tokens() - refused,
+        &answer,
+    );
 }
 
-/// Serves connections with a hub until `peers` reports the end.
-///
-/// Each event is passed to the hub, whose outputs are written to the connection as fast as it accepts them. A
-/// connection that is shut is closed once it has taken all its bytes. A connection that has left isn't
-/// written to any more. If a connection's number isn't greater than all earlier numbers, or if memory runs
-/// out for a connection, only that connection is closed, and the others are still served.
-///
-/// Fails with [`PeersFault`] if `peers` fails, or after 2^64 - 1 events.
-pub fn serve<P: Peers, S: Shelf>(
+/// Handles what the connections report: a client's event by the hub, and what interrupts the serving of
+/// clients by the operator. Returns whether the server goes on.
+fn attend<P: Peers, S: Shelf, O: Operator<S>>(
     alloc: Global,
     peers: &mut P,
     hub: &mut Hub<S>,
-) -> Result<(), PeersFault>
-    ensures keeps { KeepsHubSetting hub.old hub.new }
-    ensures fronts { IsTrue P.is_known → (entries : List Entry) (state : HubState)
+    waiting: &mut Waiting,
+    operator: &mut O,
+    peer_event: PeerEvent,
+) -> Then
+    ensures base { hub_base hub.new ≡ hub_base hub.old }
+    ensures keeps { O.may_reload ≡ false → KeepsHubSetting hub.old hub.new }
+    ensures seen { IsTrue P.is_known → P.seen peers.new ≡ P.seen peers.old }
+    ensures reached { IsTrue P.is_known → S.is_honest (hub_shelf hub.new) → (start : Start)
+        (seen : List HubEvent) → start.base ≡ hub_base hub.old
+        → IsReached start O.may_reload seen (P.written peers.old) (P.takes_all peers.old)
+        (P.is_closed peers.old) waiting.old (hub_policy hub.old) (hub_tokens hub.old)
+        (IsHubState S.stands hub.old)
+        → IsReached start O.may_reload (seen ++ told_by (Ok (Some peer_event)))
+        (P.written peers.new) (P.takes_all peers.new) (P.is_closed peers.new) waiting.new
+        (hub_policy hub.new) (hub_tokens hub.new) (IsHubState S.stands hub.new) }
+    ensures ended { O.has_ended operator.old ≡ false
+        → O.has_ended operator.new ≡ says_end result }
+    ensures honest { S.is_honest (hub_shelf hub.new) → S.is_honest (hub_shelf hub.old) }
+{
+    match peer_event {
+        PeerEvent::Event(event) => {
+            hear(alloc, peers, hub, waiting, &event);
+            Then::GoOn
+        }
+        PeerEvent::Ready(connection) => {
+            flush(peers, waiting, connection);
+            Then::GoOn
+        }
+        PeerEvent::Admin(event) => operator.handle(alloc, peers, hub, Pause::Admin(event)),
+        PeerEvent::Tick => operator.handle(alloc, peers, hub, Pause::Tick),
+    }
+}
+
+/// Why a server ended.
+#[derive(Clone, Copy, Debug, PartialEq, Eq)]
+pub enum Ending {
+    /// No connection is open and none can join.
+    Over,
+    /// The operator ended the server. Connections may still be open.
+    Ended,
+}
+
+/// Serves connections with a hub until `peers` reports the end, or the operator ends the server.
+///
+/// Each event of a client's connection is passed to the hub, whose outputs are written to the connection as
+/// fast as it accepts them. A connection that is shut is closed once it has taken all its bytes. A connection
+/// that has left isn't written to any more. If a connection's number isn't greater than all earlier numbers,
+/// or if memory runs out for a connection, only that connection is closed, and the others are still served.
+///
+/// Between two events of clients the operator handles the administrator's connections, and may replace the
+/// hub's policy and tokens.
+///
+/// Fails with [`PeersFault`] if `peers` fails, or after 2^64 - 1 events.
+pub fn serve<P: Peers, S: Shelf, O: Operator<S>>(
+    alloc: Global,
+    peers: &mut P,
+    hub: &mut Hub<S>,
+    operator: &mut O,
+) -> Result<Ending, PeersFault>
+    ensures base { hub_base hub.new ≡ hub_base hub.old }
+    ensures keeps { O.may_reload ≡ false → KeepsHubSetting hub.old hub.new }
+    ensures served { IsTrue P.is_known → (entries : List Entry) (state : HubState)
         → P.seen peers.old ≡ [] → ((m : ℕ) → P.written peers.old m ≡ [])
         → Knows entries (hub_tokens hub.old) → IsHubState S.stands hub.old state
         → S.is_honest (hub_shelf hub.new)
-        → (results : List (Result (List HubOutput) HubFault)) × (next : HubState)
-        × IsHubState S.stands hub.new next
-        × Runs (hub_policy hub.old) (hub_base hub.old) entries state
-        (P.seen peers.new) results next
-        × ((m : ℕ) → IsFront (P.written peers.new m) (due m results))
-        × ((m : ℕ) → state.connections m ≡ absent → has_left m (P.seen peers.new) ≡ false
-        → P.is_closed peers.new m ≡ false → P.takes_all peers.new m ≡ true
-        → P.written peers.new m ≡ due m results)
-        × ((m : ℕ) → state.connections m ≡ absent → is_shut m results ≡ true
-        → P.written peers.new m ≡ due m results → P.is_closed peers.new m ≡ true)
-        × ((m : ℕ) → state.connections m ≡ absent → next.connections m ≡ shut
-        → is_shut m results ≡ false → P.is_closed peers.new m ≡ true) }
-    ensures over { IsTrue P.is_known → OnOk result (P.is_over peers.new ≡ true) }
+        → (occurrences : List Occurrence) × (results : List (Result (List HubOutput) HubFault))
+        × (entries_last : List Entry) × (next : HubState)
+        × (heard occurrences ≡ P.seen peers.new)
+        × (O.may_reload ≡ false → reloaded occurrences ≡ [])
+        × Knows entries_last (hub_tokens hub.new) × IsHubState S.stands hub.new next
+        × RunsThrough (hub_base hub.old) (hub_policy hub.old) entries state
+        occurrences results (hub_policy hub.new) entries_last next
+        × AreServed state next (P.seen peers.new) results (P.written peers.new)
+        (P.takes_all peers.new) (P.is_closed peers.new) }
+    ensures over { IsTrue P.is_known → result ≡ Ok Ending.Over → P.is_over peers.new ≡ true }
+    ensures ended { O.has_ended operator.old ≡ false → O.has_ended operator.new ≡ is_ended result }
     ensures honest { S.is_honest (hub_shelf hub.new) → S.is_honest (hub_shelf hub.old) }
 {
     let mut waiting = Waiting::new(alloc);
     for _ in 0..u64::MAX {
         let Some(peer_event) = peers.next(alloc)? else {
-            return Ok(());
+            return Ok(Ending::Over);
         };
-        match &peer_event {
-            PeerEvent::Event(event) => hear(alloc, peers, hub, &mut waiting, event),
-            PeerEvent::Ready(connection) => flush(peers, &mut waiting, *connection),
+        match attend(alloc, peers, hub, &mut waiting, operator, peer_event) {
+            Then::GoOn => (),
+            Then::End => return Ok(Ending::Ended),
         }
     }
     Err(PeersFault)

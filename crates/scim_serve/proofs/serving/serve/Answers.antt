@@ -1,135 +1,121 @@
-use Rattle.std.proofs.Common.{rules, ◌≡◌, ◌∙◌, refl, sym, ap, subst, ℕ, List, [], ◌∷◌, ◌++◌}
+use Rattle.std.proofs.Common.{rules, ◌≡◌, ◌∙◌, refl, sym, ap, subst, ℕ, List, [], ◌++◌}
 use Rattle.std.specs.Prelude.{Option, Some, Ok}
-use Rattle.scim_policy.specs.Rules.{Rule}
-use Rattle.scim_token.specs.Tokens.{Knows}
-use Rattle.scim_token.specs.declared.token_table.Tokens.{Tokens}
-use Rattle.scim_hub.specs.declared.hubs.Hub.{Hub}
-use Rattle.scim_hub.specs.Events.{HubEvent, Hears, Runs}
-use Rattle.scim_hub.specs.HubStates.{owned_event_of}
+use Rattle.scim_hub.specs.Events.{HubEvent}
+use Rattle.scim_hub.specs.HubStates.{IsHubState}
 use Rattle.scim_serve.specs.declared.peers.PeerEvent.{PeerEvent}
 use Rattle.scim_serve.specs.Peers.{told_by}
-use Rattle.scim_hub.proofs.Facts.{runs_more}
+use Rattle.scim_serve.specs.code.Served.{IsReached, Start}
 use Rattle.scim_serve.proofs.EventLemmas.{nothing_told}
-use Rattle.scim_serve.specs.Serving.{due, is_shut}
-use Rattle.scim_serve.specs.code.Served.{IsServed}
-use Rattle.scim_serve.proofs.ServedLemmas.{served_first, served_same, served_kept, served_more, served_each}
+use Rattle.scim_serve.proofs.ServedLemmas.{served_first}
+use Rattle.scim_serve.proofs.ReachedLemmas.{reached_same, reached_served}
 use Rattle.scim_serve.proofs.serving.serve.Goals as goal
-use Rattle.scim_serve.proofs.serving.serve.Goals.{in-Event, in-Ready}
 
 pub loop-init : goal.loop-init
 loop-init g c = record {
-  policy = refl;
   base = refl;
-  tokens = refl;
-  served = λ known entries state unseen unwritten knows is honest. (
-    [],
-    state,
-    is,
-    subst (λ (s : List HubEvent). Runs c.args.hub.now.service.policy c.args.hub.now.service.base entries state s [] state) (sym unseen) (refl, refl),
-    served_first state (g.P.Peers.seen c.args.peers.now) (g.P.Peers.written c.args.peers.now) (g.P.Peers.takes_all c.args.peers.now) (g.P.Peers.is_closed c.args.peers.now) c.new-waiting.result
-        unseen unwritten c.new-waiting.ensures.none,
-  );
+  keeps = λ never. record { policy = refl; base = refl; tokens = refl };
+  served = λ known entries state unseen unwritten knows is honest. record {
+    occurrences = [];
+    results = [];
+    entries = entries;
+    state = state;
+    heard_is = sym unseen;
+    none_reloaded = λ never. refl;
+    knows = knows;
+    is_in = is;
+    runs = (refl, refl, refl, refl);
+    served = served_first state (g.P.Peers.seen c.args.peers.now) (g.P.Peers.written c.args.peers.now) (g.P.Peers.takes_all c.args.peers.now) (g.P.Peers.is_closed c.args.peers.now)
+        c.new-waiting.result unseen unwritten c.new-waiting.ensures.none;
+  };
+  ended = λ e. e;
   honest = λ h. h;
 }
 
 pub loop-preserved : goal.loop-preserved
 loop-preserved g c = record {
-  policy = search rules;
-  base = search rules;
-  tokens = search rules;
+  base = c.attend.ensures.base ∙ c.loop.invariant.base;
+  keeps = λ never.
+      let kept = c.loop.invariant.keeps never in
+      let keeps = c.attend.ensures.keeps never in
+      record { policy = keeps.policy ∙ kept.policy; base = keeps.base ∙ kept.base; tokens = keeps.tokens ∙ kept.tokens };
   served = λ known entries state unseen unwritten knows is honest.
-      let policy = c.args.hub.now.service.policy in
-      let base = c.args.hub.now.service.base in
-      let inv = c.loop.invariant in
-      let before = g.P.Peers.seen c.loop.peers in
       let written = g.P.Peers.written in
       let takes = g.P.Peers.takes_all in
       let closed = g.P.Peers.is_closed in
-      let told : g.P.Peers.seen c.next.new.self ≡ before ++ told_by (Ok (Some c.in-Some.peer_event)) =
-      c.in_ok-peer_event.ensures.seen known ∙ ap (λ (o : Option PeerEvent). before ++ told_by (Ok o)) c.in-Some.is in
-      elim c.match-peer_event.branch [
-        | in-Event w ↦
-            let event = owned_event_of w.in-Event.event in
-            let is_honest : g.S.Shelf.is_honest w.hear.new.hub.service.shelf = subst (λ (h : Hub g.row.S.Denot). g.S.Shelf.is_honest h.service.shelf) w.hub-is honest in
-            let s = inv.served known entries state unseen unwritten knows is (w.hear.ensures.honest is_honest) in
-            let step = w.hear.ensures.heard known entries s.1 (subst (λ (t : Tokens). Knows entries t) (sym inv.tokens) knows) s.2 is_honest in
-            let hears = subst (λ (p : List Rule). Hears p base entries event s.1 step.0 step.1) inv.policy
-            (subst (λ (b : List ℕ). Hears c.loop.hub.service.policy b entries event s.1 step.0 step.1) inv.base step.3) in
-            let seen : g.P.Peers.seen w.hear.new.peers ≡ before ++ event ∷ [] =
-            w.hear.ensures.seen known ∙ told ∙ ap (λ (i : PeerEvent). before ++ told_by (Ok (Some i))) w.in-Event.is in
-            let served = subst (λ (e : List HubEvent). IsServed state step.1 e (written w.hear.new.peers) (takes w.hear.new.peers) (closed w.hear.new.peers) w.hear.new.waiting
-            (λ m. due m (s.0 ++ step.0 ∷ [])) (λ m. is_shut m (s.0 ++ step.0 ∷ []))) (sym seen)
-            (served_more state step.1 (before ++ event ∷ []) (written w.hear.new.peers) (takes w.hear.new.peers) (closed w.hear.new.peers) w.hear.new.waiting s.0 step.0
-            (step.4 state before (λ m. due m s.0) (λ m. is_shut m s.0)
-            (served_same state s.1 before (written c.loop.peers) (written c.next.new.self) (takes c.loop.peers) (takes c.next.new.self) (closed c.loop.peers) (closed c.next.new.self)
-            c.loop.waiting (λ m. due m s.0) (λ m. is_shut m s.0) (c.in_ok-peer_event.ensures.written known) (c.in_ok-peer_event.ensures.takes known) (c.in_ok-peer_event.ensures.closed known) s.4))) in
-            let runs = runs_more policy base entries event step.0 step.1 state s.1 before s.0 s.3 hears in
-            rw (w.peers-is, w.hub-is, w.waiting-is)
-            (s.0 ++ step.0 ∷ [], step.1, step.2, subst (λ (e : List HubEvent). Runs policy base entries state e (s.0 ++ step.0 ∷ []) step.1) (sym seen) runs, served)
-        | in-Ready w ↦
-            let is_honest : g.S.Shelf.is_honest c.loop.hub.service.shelf = subst (λ (h : Hub g.row.S.Denot). g.S.Shelf.is_honest h.service.shelf) w.hub-is honest in
-            let s = inv.served known entries state unseen unwritten knows is is_honest in
-            let seen : g.P.Peers.seen w.flush.new.peers ≡ before =
-            w.flush.ensures.seen known ∙ nothing_told before (told_by (Ok (Some c.in-Some.peer_event))) (g.P.Peers.seen c.next.new.self) told (ap (λ (i : PeerEvent). told_by (Ok (Some i))) w.in-Ready.is) in
-            let served = subst (λ (e : List HubEvent). IsServed state s.1 e (written w.flush.new.peers) (takes w.flush.new.peers) (closed w.flush.new.peers) w.flush.new.waiting
-            (λ m. due m s.0) (λ m. is_shut m s.0)) (sym seen)
-            (served_kept state s.1 before (written c.next.new.self) (written w.flush.new.peers) (takes c.next.new.self) (takes w.flush.new.peers) (closed c.next.new.self) (closed w.flush.new.peers)
-            c.loop.waiting w.flush.new.waiting (λ m. due m s.0) (λ m. is_shut m s.0) (w.flush.ensures.kept known) (λ m taken. w.flush.ensures.taken known m (λ apart. taken))
-            (w.flush.ensures.stays known) w.flush.ensures.marks (λ m before. w.flush.ensures.unfinished m (λ apart. before)) w.flush.ensures.next
-            (served_same state s.1 before (written c.loop.peers) (written c.next.new.self) (takes c.loop.peers) (takes c.next.new.self) (closed c.loop.peers) (closed c.next.new.self)
-            c.loop.waiting (λ m. due m s.0) (λ m. is_shut m s.0) (c.in_ok-peer_event.ensures.written known) (c.in_ok-peer_event.ensures.takes known) (c.in_ok-peer_event.ensures.closed known) s.4)) in
-            rw (w.peers-is, w.hub-is, w.waiting-is)
-            (s.0, s.1, s.2, subst (λ (e : List HubEvent). Runs policy base entries state e s.0 s.1) (sym seen) s.3, served)
-      ];
-  honest = search rules;
+      let hub = c.loop.hub in
+      let hub_then = c.attend.new.hub in
+      let before = g.P.Peers.seen c.loop.peers in
+      let start : Start = record { base = c.args.hub.now.service.base; policy = c.args.hub.now.service.policy; entries = entries; state = state } in
+      let next = c.in_ok-peer_event.ensures in
+      let told : g.P.Peers.seen c.attend.new.peers ≡ before ++ told_by (Ok (Some c.in-Some.peer_event)) =
+      c.attend.ensures.seen known ∙ next.seen known ∙ ap (λ (o : Option PeerEvent). before ++ told_by (Ok o)) c.in-Some.is in
+      let reached = subst (λ (events : List HubEvent). IsReached start g.O.Operator.may_reload events (written c.attend.new.peers) (takes c.attend.new.peers) (closed c.attend.new.peers)
+      c.attend.new.waiting hub_then.service.policy hub_then.tokens (IsHubState g.S.Shelf.stands hub_then)) (sym told)
+      (c.attend.ensures.reached known honest start before (sym c.loop.invariant.base)
+      (reached_same start g.O.Operator.may_reload before (written c.loop.peers) (takes c.loop.peers) (closed c.loop.peers)
+      c.loop.waiting hub.service.policy hub.tokens (IsHubState g.S.Shelf.stands hub) (written c.next.new.self) (takes c.next.new.self) (closed c.next.new.self)
+      (next.written known) (next.takes known) (next.closed known)
+      (c.loop.invariant.served known entries state unseen unwritten knows is (c.attend.ensures.honest honest)))) in
+      reached;
+  ended = search rules;
+  honest = λ h. c.loop.invariant.honest (c.attend.ensures.honest h);
 }
 
-pub returns-in_err-peer_event-clause-fronts : goal.returns-in_err-peer_event-clause-fronts
-returns-in_err-peer_event-clause-fronts g c = λ known entries state unseen unwritten knows is honest.
-    let s = c.loop.invariant.served known entries state unseen unwritten knows is honest in
-    let same : g.P.Peers.seen c.next.new.self ≡ g.P.Peers.seen c.loop.peers = nothing_told (g.P.Peers.seen c.loop.peers) [] (g.P.Peers.seen c.next.new.self) (c.in_err-peer_event.ensures.seen known) refl in
-    let served = subst (λ (e : List HubEvent). IsServed state s.1 e (g.P.Peers.written c.next.new.self) (g.P.Peers.takes_all c.next.new.self) (g.P.Peers.is_closed c.next.new.self) c.loop.waiting
-    (λ m. due m s.0) (λ m. is_shut m s.0)) (sym same)
-    (served_same state s.1 (g.P.Peers.seen c.loop.peers) (g.P.Peers.written c.loop.peers) (g.P.Peers.written c.next.new.self) (g.P.Peers.takes_all c.loop.peers) (g.P.Peers.takes_all c.next.new.self)
-    (g.P.Peers.is_closed c.loop.peers) (g.P.Peers.is_closed c.next.new.self) c.loop.waiting (λ m. due m s.0) (λ m. is_shut m s.0) (c.in_err-peer_event.ensures.written known)
-    (c.in_err-peer_event.ensures.takes known) (c.in_err-peer_event.ensures.closed known) s.4) in
-    let each = served_each state s.1 (g.P.Peers.seen c.next.new.self) (g.P.Peers.written c.next.new.self) (g.P.Peers.takes_all c.next.new.self) (g.P.Peers.is_closed c.next.new.self) c.loop.waiting
-    (λ m. due m s.0) (λ m. is_shut m s.0) served in (
-      s.0,
-      s.1,
-      s.2,
-      subst (λ (e : List HubEvent). Runs c.args.hub.now.service.policy c.args.hub.now.service.base entries state e s.0 s.1) (sym same) s.3,
-      each.0,
-      each.1,
-      each.2,
-      each.3,
-    )
+pub returns-in-End-clause-served : goal.returns-in-End-clause-served
+returns-in-End-clause-served g c = λ known entries state unseen unwritten knows is honest.
+    let written = g.P.Peers.written in
+    let takes = g.P.Peers.takes_all in
+    let closed = g.P.Peers.is_closed in
+    let hub = c.loop.hub in
+    let hub_then = c.attend.new.hub in
+    let before = g.P.Peers.seen c.loop.peers in
+    let start : Start = record { base = c.args.hub.now.service.base; policy = c.args.hub.now.service.policy; entries = entries; state = state } in
+    let next = c.in_ok-peer_event.ensures in
+    let told : g.P.Peers.seen c.attend.new.peers ≡ before ++ told_by (Ok (Some c.in-Some.peer_event)) =
+    c.attend.ensures.seen known ∙ next.seen known ∙ ap (λ (o : Option PeerEvent). before ++ told_by (Ok o)) c.in-Some.is in
+    let reached = subst (λ (events : List HubEvent). IsReached start g.O.Operator.may_reload events (written c.attend.new.peers) (takes c.attend.new.peers) (closed c.attend.new.peers)
+    c.attend.new.waiting hub_then.service.policy hub_then.tokens (IsHubState g.S.Shelf.stands hub_then)) (sym told)
+    (c.attend.ensures.reached known honest start before (sym c.loop.invariant.base)
+    (reached_same start g.O.Operator.may_reload before (written c.loop.peers) (takes c.loop.peers) (closed c.loop.peers)
+    c.loop.waiting hub.service.policy hub.tokens (IsHubState g.S.Shelf.stands hub) (written c.next.new.self) (takes c.next.new.self) (closed c.next.new.self)
+    (next.written known) (next.takes known) (next.closed known)
+    (c.loop.invariant.served known entries state unseen unwritten knows is (c.attend.ensures.honest honest)))) in
+    reached_served start g.O.Operator.may_reload (g.P.Peers.seen c.attend.new.peers) (written c.attend.new.peers) (takes c.attend.new.peers) (closed c.attend.new.peers)
+    c.attend.new.waiting hub_then.service.policy hub_then.tokens (IsHubState g.S.Shelf.stands hub_then) reached
 
-pub returns-in_default-clause-fronts : goal.returns-in_default-clause-fronts
-returns-in_default-clause-fronts g c = λ known entries state unseen unwritten knows is honest.
-    let s = c.loop.invariant.served known entries state unseen unwritten knows is honest in
+pub returns-in_err-peer_event-clause-served : goal.returns-in_err-peer_event-clause-served
+returns-in_err-peer_event-clause-served g c = λ known entries state unseen unwritten knows is honest.
+    let reached = c.loop.invariant.served known entries state unseen unwritten knows is honest in
+    let same : g.P.Peers.seen c.next.new.self ≡ g.P.Peers.seen c.loop.peers = nothing_told (g.P.Peers.seen c.loop.peers) [] (g.P.Peers.seen c.next.new.self) (c.in_err-peer_event.ensures.seen known) refl in
+    let hub = c.loop.hub in
+    let start : Start = record { base = c.args.hub.now.service.base; policy = c.args.hub.now.service.policy; entries = entries; state = state } in
+    reached_served start g.O.Operator.may_reload (g.P.Peers.seen c.next.new.self) (g.P.Peers.written c.next.new.self) (g.P.Peers.takes_all c.next.new.self) (g.P.Peers.is_closed c.next.new.self)
+    c.loop.waiting hub.service.policy hub.tokens (IsHubState g.S.Shelf.stands hub)
+    (subst (λ (events : List HubEvent). IsReached start g.O.Operator.may_reload events (g.P.Peers.written c.next.new.self) (g.P.Peers.takes_all c.next.new.self)
+    (g.P.Peers.is_closed c.next.new.self) c.loop.waiting hub.service.policy hub.tokens (IsHubState g.S.Shelf.stands hub)) (sym same)
+    (reached_same start g.O.Operator.may_reload (g.P.Peers.seen c.loop.peers) (g.P.Peers.written c.loop.peers) (g.P.Peers.takes_all c.loop.peers) (g.P.Peers.is_closed c.loop.peers)
+    c.loop.waiting hub.service.policy hub.tokens (IsHubState g.S.Shelf.stands hub) (g.P.Peers.written c.next.new.self) (g.P.Peers.takes_all c.next.new.self) (g.P.Peers.is_closed c.next.new.self)
+    (c.in_err-peer_event.ensures.written known) (c.in_err-peer_event.ensures.takes known) (c.in_err-peer_event.ensures.closed known) reached))
+
+pub returns-in_default-clause-served : goal.returns-in_default-clause-served
+returns-in_default-clause-served g c = λ known entries state unseen unwritten knows is honest.
+    let reached = c.loop.invariant.served known entries state unseen unwritten knows is honest in
     let same : g.P.Peers.seen c.next.new.self ≡ g.P.Peers.seen c.loop.peers =
     nothing_told (g.P.Peers.seen c.loop.peers) (told_by (Ok c.in_ok-peer_event.field-0)) (g.P.Peers.seen c.next.new.self) (c.in_ok-peer_event.ensures.seen known)
     (ap (λ (o : Option PeerEvent). told_by (Ok o)) c.in_default.is) in
-    let served = subst (λ (e : List HubEvent). IsServed state s.1 e (g.P.Peers.written c.next.new.self) (g.P.Peers.takes_all c.next.new.self) (g.P.Peers.is_closed c.next.new.self) c.loop.waiting
-    (λ m. due m s.0) (λ m. is_shut m s.0)) (sym same)
-    (served_same state s.1 (g.P.Peers.seen c.loop.peers) (g.P.Peers.written c.loop.peers) (g.P.Peers.written c.next.new.self) (g.P.Peers.takes_all c.loop.peers) (g.P.Peers.takes_all c.next.new.self)
-    (g.P.Peers.is_closed c.loop.peers) (g.P.Peers.is_closed c.next.new.self) c.loop.waiting (λ m. due m s.0) (λ m. is_shut m s.0) (c.in_ok-peer_event.ensures.written known)
-    (c.in_ok-peer_event.ensures.takes known) (c.in_ok-peer_event.ensures.closed known) s.4) in
-    let each = served_each state s.1 (g.P.Peers.seen c.next.new.self) (g.P.Peers.written c.next.new.self) (g.P.Peers.takes_all c.next.new.self) (g.P.Peers.is_closed c.next.new.self) c.loop.waiting
-    (λ m. due m s.0) (λ m. is_shut m s.0) served in (
-      s.0,
-      s.1,
-      s.2,
-      subst (λ (e : List HubEvent). Runs c.args.hub.now.service.policy c.args.hub.now.service.base entries state e s.0 s.1) (sym same) s.3,
-      each.0,
-      each.1,
-      each.2,
-      each.3,
-    )
+    let hub = c.loop.hub in
+    let start : Start = record { base = c.args.hub.now.service.base; policy = c.args.hub.now.service.policy; entries = entries; state = state } in
+    reached_served start g.O.Operator.may_reload (g.P.Peers.seen c.next.new.self) (g.P.Peers.written c.next.new.self) (g.P.Peers.takes_all c.next.new.self) (g.P.Peers.is_closed c.next.new.self)
+    c.loop.waiting hub.service.policy hub.tokens (IsHubState g.S.Shelf.stands hub)
+    (subst (λ (events : List HubEvent). IsReached start g.O.Operator.may_reload events (g.P.Peers.written c.next.new.self) (g.P.Peers.takes_all c.next.new.self)
+    (g.P.Peers.is_closed c.next.new.self) c.loop.waiting hub.service.policy hub.tokens (IsHubState g.S.Shelf.stands hub)) (sym same)
+    (reached_same start g.O.Operator.may_reload (g.P.Peers.seen c.loop.peers) (g.P.Peers.written c.loop.peers) (g.P.Peers.takes_all c.loop.peers) (g.P.Peers.is_closed c.loop.peers)
+    c.loop.waiting hub.service.policy hub.tokens (IsHubState g.S.Shelf.stands hub) (g.P.Peers.written c.next.new.self) (g.P.Peers.takes_all c.next.new.self) (g.P.Peers.is_closed c.next.new.self)
+    (c.in_ok-peer_event.ensures.written known) (c.in_ok-peer_event.ensures.takes known) (c.in_ok-peer_event.ensures.closed known) reached))
 
-pub returns-clause-fronts : goal.returns-clause-fronts
-returns-clause-fronts g c = λ known entries state unseen unwritten knows is honest.
-    let s = c.loop.invariant.served known entries state unseen unwritten knows is honest in
-    let each = served_each state s.1 (g.P.Peers.seen c.loop.peers) (g.P.Peers.written c.loop.peers) (g.P.Peers.takes_all c.loop.peers) (g.P.Peers.is_closed c.loop.peers) c.loop.waiting
-    (λ m. due m s.0) (λ m. is_shut m s.0) s.4 in (s.0, s.1, s.2, s.3, each.0, each.1, each.2, each.3)
+pub returns-clause-served : goal.returns-clause-served
+returns-clause-served g c = λ known entries state unseen unwritten knows is honest.
+    let hub = c.loop.hub in
+    let start : Start = record { base = c.args.hub.now.service.base; policy = c.args.hub.now.service.policy; entries = entries; state = state } in
+    reached_served start g.O.Operator.may_reload (g.P.Peers.seen c.loop.peers) (g.P.Peers.written c.loop.peers) (g.P.Peers.takes_all c.loop.peers) (g.P.Peers.is_closed c.loop.peers)
+    c.loop.waiting hub.service.policy hub.tokens (IsHubState g.S.Shelf.stands hub) (c.loop.invariant.served known entries state unseen unwritten knows is honest)
