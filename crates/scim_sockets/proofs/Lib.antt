@@ -1,2 +1,3 @@
+pub mod BusyLemmas
 pub mod TotalLemmas
 pub mod TurnLemmas

@@ -1,11 +1,12 @@
 -- The state of a connection: the bytes that its turn read, and how many of the offered bytes it took. A turn
 -- is one unit of the connection's work.
-use Rattle.std.specs.Prelude.{◌≡◌, ◌≤◌, ◌+◌, ◌-◌, ◌*◌, ◌^◌, ◌⊎◌, ℕ, true, None, List, length, min}
+use Rattle.std.specs.Prelude.{◌≡◌, ◌≤◌, ◌+◌, ◌-◌, ◌*◌, ◌^◌, ◌⊎◌, ℕ, true, None, List, length, min, vec_len}
 use Rattle.scim_sockets.specs.declared.connection.Connection.{Connection}
 use Rattle.scim_sockets.specs.declared.connection.Taking.{Taking}
 use Rattle.scim_sockets.specs.declared.connection.Taking.TheVariants.{All}
 use Rattle.scim_sockets.specs.declared.connection.Turn.{Turn}
 use Rattle.scim_sockets.specs.declared.connection.Turn.TheVariants.{Nothing, Read, Piece, Ready, Left}
+use Rattle.scim_sockets.specs.declared.pieces.Part.TheVariants.{Between}
 
 -- fewer bytes were taken than offered
 abbrev pub IsLess : Taking → Type 0
@@ -15,6 +16,16 @@ IsLess _ = Unit {0}
 -- the connection has taken fewer bytes than it was last offered
 abbrev pub IsBehind : Connection → Type 0
 IsBehind connection = IsLess connection.taking
+
+-- the connection was asked to report its next turn
+abbrev pub IsAsked : Connection → Type 0
+IsAsked connection = connection.is_asked ≡ true
+
+-- the connection has taken all bytes that it was offered, no message has begun, and nothing is held
+pub record IsAtRest (connection : Connection) : Type 0 where
+  pub taking : connection.taking ≡ All
+  pub part : connection.scan.part ≡ Between
+  pub held : connection.held.start ≡ vec_len connection.held.bytes
 
 -- the connection takes no more bytes: its socket is dropped, or it was shut
 abbrev pub TakesNothing : Connection → Type 0

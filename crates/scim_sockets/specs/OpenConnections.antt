@@ -1,10 +1,10 @@
 -- The open connections by number, and the sum of their weights.
-use Rattle.std.specs.Prelude.{◌≡◌, ◌≢◌, ◌≤◌, ◌^◌, ℕ, Option, None, is_some}
+use Rattle.std.specs.Prelude.{◌≡◌, ◌≢◌, ◌≤◌, ◌^◌, ℕ, Option, None, Some, is_some}
 use Rattle.std.specs.List.{All, sum_by}
 use Rattle.std.specs.Ordering.{nat_cmp}
 use Rattle.std.specs.BTreeMap.{BTreeMap, btree_map_len, get, values}
 use Rattle.scim_sockets.specs.declared.connection.Connection.{Connection}
-use Rattle.scim_sockets.specs.Connections.{weight_of}
+use Rattle.scim_sockets.specs.Connections.{IsAtRest, weight_of}
 
 -- the connection with the number n, if there is one
 abbrev pub connection_at : BTreeMap ℕ Connection → ℕ → Option Connection
@@ -17,6 +17,10 @@ total_weight by_number = sum_by weight_of (values by_number)
 -- all connections other than n are as before
 abbrev pub KeepsOthers : ℕ → BTreeMap ℕ Connection → BTreeMap ℕ Connection → Type 0
 KeepsOthers n old new = (m : ℕ) → n ≢ m → connection_at new m ≡ connection_at old m
+
+-- all connections that aren't at rest are as before
+abbrev pub KeepsBusy : BTreeMap ℕ Connection → BTreeMap ℕ Connection → Type 0
+KeepsBusy old new = (m : ℕ) (c : Connection) → connection_at old m ≡ Some c → (IsAtRest c → ⊥) → connection_at new m ≡ Some c
 
 -- at most connection n has changed, and it is still there if it was
 pub record ChangesOne (n : ℕ) (old new : BTreeMap ℕ Connection) : Type 0 where

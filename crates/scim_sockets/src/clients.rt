@@ -5,14 +5,36 @@ use std::time::Duration;
 /// The place of connections that have sent no token.
 pub(crate) const NOBODY: usize = 0;
 
-/// The maximum number of clients, with [`NOBODY`].
-const MOST_CLIENTS: usize = 1025;
-
 /// The length of the longest token that is told from another one in full.
 const LONGEST_NAME: usize = 256;
 
 /// The most by which a client may be ahead of the others, in milliseconds.
 const LEAD: u64 = 100;
+
+/// The share of the server's time that a client has used.
+#[derive(Clone, Copy)]
+pub(crate) struct Account {
+    used: Duration,
+}
+
+impl Account {
+    /// Returns the account of a client that has used no time.
+    pub(crate) fn new() -> Account {
+        Account {
+            used: Duration::from_secs(0),
+        }
+    }
+
+    /// Returns the share of the client, where `now` is the share of the one that was served last.
+    pub(crate) fn share(self, now: Duration) -> Duration {
+        self.used.max(now).min(latest(now))
+    }
+
+    /// Adds the time that a request of the client took, which was served at the share `now`.
+    pub(crate) fn charge(&mut self, now: Duration, cost: Duration) {
+        self.used = self.used.max(now).saturating_add(cost).min(latest(now));
+    }
+}
 
 /// A client, which is what connections with the same token have in common.
 #[derive(Drop)]
@@ -21,8 +43,18 @@ struct Client {
     name: Vec<u8>,
     // The number of its connections.
     connections: u64,
-    // The share of the server's time that it has used.
-    used: Duration,
+    account: Account,
+}
+
+impl Client {
+    /// Returns a client with a name that has no connection and has used no time.
+    fn new(name: Vec<u8>) -> Client {
+        Client {
+            name,
+            connections: 0,
+            account: Account::new(),
+        }
+    }
 }
 
 /// The clients, and the share of the server's time that each has used.
@@ -38,16 +70,11 @@ pub(crate) struct Clients {
 }
 
 impl Clients {
-    /// Allocates the places. All are free.
-    pub(crate) fn new(alloc: Global) -> Result<Clients, AllocError> {
-        let mut places = Vec::with_capacity(alloc, MOST_CLIENTS)?;
-        for _ in 0..MOST_CLIENTS {
-            let client = Client {
-                name: Vec::new(alloc),
-                connections: 0,
-                used: Duration::from_secs(0),
-            };
-            if places.push(client).is_err() {
+    /// Allocates places for this many clients, and [`NOBODY`]. All are free.
+    pub(crate) fn new(alloc: Global, count: usize) -> Result<Clients, AllocError> {
+        let mut places = Vec::with_capacity(alloc, count.saturating_add(1))?;
+        for _ in 0..count.saturating_add(1) {
+            if places.push(Client::new(Vec::new(alloc))).is_err() {
                 return Err(AllocError);
             }
         }
@@ -96,9 +123,9 @@ impl Clients {
         let mut stalest = NOBODY;
         let mut least = Duration::MAX;
         for (place, client) in self.places.iter().enumerate() {
-            if place != NOBODY && client.connections == 0 && client.used < least {
+            if place != NOBODY && client.connections == 0 && client.account.used < least {
                 stalest = place;
-                least = client.used;
+                least = client.account.used;
             }
         }
         stalest
@@ -115,7 +142,7 @@ impl Clients {
         match self.places.get_mut(place) {
             Some(client) => {
                 client.name = name;
-                client.used = Duration::from_secs(0);
+                client.account = Account::new();
                 place
             }
             None => NOBODY,
@@ -125,7 +152,7 @@ impl Clients {
     /// Returns the share of the client at a place, where `now` is the share of the one that was served last.
     pub(crate) fn share(&self, place: usize, now: Duration) -> Duration {
         match self.places.get(place) {
-            Some(client) => client.used.max(now).min(latest(now)),
+            Some(client) => client.account.share(now),
             None => now,
         }
     }
@@ -133,7 +160,7 @@ impl Clients {
     /// Adds the time that a request of the client at a place took, which was served at the share `now`.
     pub(crate) fn charge(&mut self, place: usize, now: Duration, cost: Duration) {
         if let Some(client) = self.places.get_mut(place) {
-            client.used = client.used.max(now).saturating_add(cost).min(latest(now));
+            client.account.charge(now, cost);
         }
     }
 }

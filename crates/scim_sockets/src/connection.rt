@@ -1,6 +1,6 @@
 //! A connection over a socket, with the state of its reading and writing.
-ghost use Rattle.std.specs.Prelude.{◌≡◌, ◌<◌, ◌≤◌, ◌+◌, ◌*◌, ◌^◌, ◌⊎◌, None, length};
-ghost use Rattle.scim_sockets.specs.Connections.{IsBehind, TakesNothing, IsUnread, FitsIn, CountsPiece, IsQuiet, StaysBehind, ContinuesReply, clipped, owed_after, weight_of};
+ghost use Rattle.std.specs.Prelude.{◌≡◌, ◌<◌, ◌≤◌, ◌+◌, ◌-◌, ◌*◌, ◌^◌, ◌⊎◌, None, IsTrue, length, false};
+ghost use Rattle.scim_sockets.specs.Connections.{IsAsked, IsAtRest, IsBehind, TakesNothing, IsUnread, FitsIn, CountsPiece, IsQuiet, StaysBehind, ContinuesReply, clipped, owed_after, weight_of};
 
 use crate::held_bytes::Held;
 use crate::pieces::{Part, Scan};
@@ -8,7 +8,7 @@ use crate::time_limits::{LINGER, Limits};
 use mio::net::TcpStream;
 use std::alloc::Global;
 use std::io::{ErrorKind, Read, Write};
-use std::net::Shutdown;
+use std::net::{IpAddr, Shutdown};
 use std::time::Duration;
 
 /// The interim reply 100 (Continue), after which the message in hand goes on.
@@ -34,7 +34,7 @@ pub(crate) enum Turn {
     Read(usize),
     /// This many of the bytes that the connection held are handed on.
     Piece(usize),
-    /// The connection may take more of the bytes that it was offered.
+    /// The connection may take more of the bytes that it was offered, or was asked to report its turn.
     Ready,
     /// The connection has ended.
     Left,
@@ -66,7 +66,11 @@ pub(crate) enum Late {
 pub(crate) struct Connection {
     // `None` after the connection has ended.
     stream: Option<TcpStream>,
+    // The address of the client.
+    address: IpAddr,
     taking: Taking,
+    // Whether the next turn is reported as `Turn::Ready` even if the connection has taken all bytes.
+    is_asked: bool,
     // Whether a read may return bytes.
     may_read: bool,
     // Whether the connection was shut: it takes no more bytes, and the bytes that it sends are dropped.
@@ -82,7 +86,8 @@ pub(crate) struct Connection {
     // The time at which the last reply was begun, and how many bytes were taken since.
     replied: Duration,
     taken: u64,
-    // The time at which the connection last sent a byte of a message, took bytes, was accepted, or was shut.
+    // The time at which the connection last sent a byte of a message, took bytes, reported its turn as it was
+    // asked to, was accepted, or was shut.
     last: Duration,
     // The number of bytes that were handed on since the last reply was begun.
     handed: u32,
@@ -108,15 +113,22 @@ fn weight_with(handed: u32, owed: u32) -> u64
 }
 
 impl Connection {
-    /// Returns a newly accepted connection.
-    pub(crate) fn new(alloc: Global, stream: TcpStream, now: Duration) -> Connection
+    /// Returns a newly accepted connection of a client with this address.
+    pub(crate) fn new(
+        alloc: Global,
+        stream: TcpStream,
+        address: IpAddr,
+        now: Duration,
+    ) -> Connection
         ensures { weight_of result ≡ 0 }
     {
         // Replies are written whole, so the system needn't delay small packets.
         let _ = stream.set_nodelay(true);
         Connection {
             stream: Some(stream),
+            address,
             taking: Taking::All,
+            is_asked: false,
             may_read: true,
             is_shut: false,
             is_waiting: false,
@@ -143,6 +155,20 @@ impl Connection {
         ensures light { weight_of self.now ≤ 2 ^ 34 }
     {
         weight_with(self.handed, self.owed)
+    }
+
+    /// Returns how many bytes the connection was offered and hasn't taken yet.
+    pub(crate) fn untaken(&self) -> u64
+        ensures { result ≡ self.now.owed - self.now.taken }
+    {
+        u64::from(self.owed).saturating_sub(self.taken)
+    }
+
+    /// Returns the address of the client.
+    pub(crate) fn address(&self) -> IpAddr
+        ensures { result ≡ self.now.address }
+    {
+        self.address
     }
 
     /// Returns the place of the client whose requests came last; 0 at first.
@@ -173,6 +199,18 @@ impl Connection {
         }
     }
 
+    /// Asks the connection to report its next turn as [`Turn::Ready`], even if it has taken all bytes. A
+    /// connection that takes no more bytes isn't asked.
+    pub(crate) fn ask(&mut self)
+        ensures asked { IsAsked self.new ⊎ TakesNothing self.new }
+        ensures behind { IsBehind self.old → IsBehind self.new }
+        ensures weight { weight_of self.new ≡ weight_of self.old }
+    {
+        if self.stream.is_some() && !self.is_shut {
+            self.is_asked = true;
+        }
+    }
+
     /// Returns whether the connection must be queued: whether it has work to do and isn't queued. If so,
     /// marks the connection as queued.
     pub(crate) fn begins_to_wait(&mut self) -> bool
@@ -180,7 +218,7 @@ impl Connection {
         ensures weight { weight_of self.new ≡ weight_of self.old }
     {
         let has_to_do = match self.taking {
-            Taking::All => self.may_read || !self.held.is_empty(),
+            Taking::All => self.may_read || self.is_asked || !self.held.is_empty(),
             Taking::Less => false,
             Taking::More => true,
         };
@@ -195,22 +233,37 @@ impl Connection {
     ///
     /// A connection that hasn't taken all offered bytes isn't read, and nothing that it holds is handed on. So
     /// a reply is begun only after the one before it was taken, and the end of the stream is seen only after
-    /// the connection has taken its replies: a client that has closed its sending side gets them.
+    /// the connection has taken its replies: a client that has closed its sending side gets them. The same
+    /// holds for a connection that was asked to report its turn, until it has reported it.
     pub(crate) fn turn(&mut self, now: Duration, buffer: &mut [u8]) -> Turn
         ensures fits { FitsIn buffer.new result }
         ensures handed { CountsPiece self.old.handed self.new.handed result }
-        ensures quiet { IsBehind self.old → IsQuiet result × (buffer.new ≡ buffer.old) }
+        ensures quiet { IsBehind self.old ⊎ IsAsked self.old
+            → IsQuiet result × (buffer.new ≡ buffer.old) }
         ensures behind { IsBehind self.old → StaysBehind self.old self.new }
     {
         self.is_waiting = false;
         match self.taking {
+            Taking::All if self.is_asked => {
+                self.last = now;
+                self.report_ready()
+            }
             Taking::All => self.advance(now, buffer),
             Taking::Less => Turn::Nothing,
             Taking::More => {
                 self.taking = Taking::Less;
-                Turn::Ready
+                self.report_ready()
             }
         }
+    }
+
+    /// Reports that the connection may take bytes, as it was perhaps asked to.
+    fn report_ready(&mut self) -> Turn
+        ensures ready { result ≡ Turn.Ready }
+        ensures reported { self.new ≡ record self.old { is_asked = false } }
+    {
+        self.is_asked = false;
+        Turn::Ready
     }
 
     /// Hands on the next piece of the bytes that the connection holds, or reads if it holds none.
@@ -382,6 +435,7 @@ impl Connection {
         if is_sent {
             self.drop_bytes();
             self.is_shut = true;
+            self.is_asked = false;
             self.taking = Taking::All;
             self.may_read = true;
             self.last = now;
@@ -399,6 +453,7 @@ impl Connection {
     {
         self.stream = None;
         self.drop_bytes();
+        self.is_asked = false;
         self.taking = Taking::All;
         self.may_read = true;
     }
@@ -456,13 +511,28 @@ impl Connection {
         }
     }
 
-    /// Returns the time since which the connection has been idle: no message has begun, nothing is held, no
-    /// reply is pending, and no work is queued. `None` if it isn't idle.
-    pub(crate) fn idle_since(&self) -> Option<Duration> {
-        let is_idle = self.taking == Taking::All
+    /// Whether the connection is at rest: no message has begun, nothing is held, no reply is pending, and it
+    /// wasn't asked to report its turn.
+    fn is_at_rest(&self) -> bool
+        ensures { IsTrue result → IsAtRest self.now }
+    {
+        self.taking == Taking::All
+            && !self.is_asked
             && self.scan.part() == Part::Between
             && self.held.is_empty()
-            && !self.is_waiting;
-        is_idle.then_some(self.last)
+    }
+
+    /// Returns the time since which the connection has been idle: it is at rest, and no work is queued. `None`
+    /// if it isn't idle.
+    pub(crate) fn idle_since(&self) -> Option<Duration> {
+        (self.is_at_rest() && !self.is_waiting).then_some(self.last)
+    }
+
+    /// Whether the connection can be shut without loss when the server stops: it is at rest. If `may_wait` is
+    /// true, no work is queued either: the bytes of another message may have come.
+    pub(crate) fn can_stop(&self, may_wait: bool) -> bool
+        ensures { IsTrue result → IsAtRest self.now }
+    {
+        self.is_at_rest() && !self.is_shut && !(may_wait && self.is_waiting)
     }
 }

@@ -60,15 +60,3 @@ impl fmt::Display for Counts {
         )
     }
 }
-
-/// A runtime that tells the operator which connections were closed.
-pub trait Log {
-    /// Prints a line with the number of connections closed so far, if it can be printed.
-    fn log(&self, counts: &Counts);
-}
-
-impl Log for HostRuntime {
-    fn log(&self, counts: &Counts) {
-        let _printed = eprintln!(self; "scimd: connections closed: {counts}");
-    }
-}

@@ -1,5 +1,5 @@
 //! The bytes that a connection has read and not handed on.
-ghost use Rattle.std.specs.Prelude.{◌≡◌, ◌≤◌, length, vec_len};
+ghost use Rattle.std.specs.Prelude.{◌≡◌, ◌≤◌, ◌↔◌, IsTrue, length, vec_len};
 
 use crate::pieces::Scan;
 use std::alloc::{AllocError, Global};
@@ -23,7 +23,9 @@ impl Held {
     }
 
     /// Whether all bytes were handed on.
-    pub(crate) fn is_empty(&self) -> bool {
+    pub(crate) fn is_empty(&self) -> bool
+        ensures { IsTrue result ↔ self.now.start ≡ vec_len self.now.bytes }
+    {
         self.start == self.bytes.len()
     }
 

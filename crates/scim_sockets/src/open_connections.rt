@@ -1,19 +1,23 @@
 //! The open connections, and how much memory the server may have allocated for all of them.
-ghost use Rattle.std.specs.Prelude.{◌≡◌, ◌+◌, ◌-◌, ◌^◌, ◌<◌, ◌≤◌, ◌⊎◌, ◌↔◌, None, Some, IfSome, IsTrue, length, min};
+ghost use Rattle.std.specs.Prelude.{◌≡◌, ◌+◌, ◌-◌, ◌^◌, ◌<◌, ◌≤◌, ◌⊎◌, ◌↔◌, None, Some, IfSome, IsTrue, length, min, option_map};
 ghost use Rattle.std.specs.BTreeMap.{btree_map_len};
 ghost use Rattle.scim_sockets.specs.declared.connection.Connection.{Connection};
-ghost use Rattle.scim_sockets.specs.Connections.{FitsIn, IsBehind, IsQuiet, StaysBehind, TakesNothing};
+ghost use Rattle.scim_sockets.specs.Connections.{FitsIn, IsAsked, IsAtRest, IsBehind, IsQuiet, StaysBehind, TakesNothing};
 ghost use Rattle.scim_sockets.specs.OpenConnections.{AreCounted, connection_at, total_weight, ChangesOne, KeepsOthers};
 
 use crate::connection::{Connection, Late, Turn};
 use crate::time_limits::Limits;
 use std::alloc::Global;
 use std::collections::BTreeMap;
+use std::net::IpAddr;
 use std::time::Duration;
 
-/// The maximum number of open connections. If another one comes, the connection that has been idle longest
-/// gives way; if none is idle, the new one waits in the system's queue.
+/// The maximum number of open connections of a port.
 pub(crate) const MOST_OPEN: usize = 1024;
+
+/// How many numbers are given to connections at most: half of all, since the system's reports are about one
+/// connection or listener of each port by a number of 64 bits.
+const MOST_NUMBERS: u64 = (1 << 63) - 1;
 
 /// The open connections by number, and the sum of their weights.
 #[derive(Drop)]
@@ -57,21 +61,25 @@ impl Open {
         self.by_number.is_empty()
     }
 
-    /// Whether the maximum number of connections is open.
-    pub(crate) fn is_full(&self) -> bool
-        ensures { IsTrue result ↔ (1024 ≤ btree_map_len self.now.by_number) }
+    /// Returns the number of open connections.
+    pub(crate) fn len(&self) -> usize
+        ensures { result ≡ btree_map_len self.now.by_number }
     {
-        self.by_number.len() >= MOST_OPEN
+        self.by_number.len()
     }
 
-    /// Returns a number that was given to no connection before; `None` after 2^64 - 1 numbers.
+    /// Returns a number that was given to no connection before; `None` after 2^63 - 1 numbers.
     pub(crate) fn new_number(&mut self) -> Option<u64>
         ensures connections { self.new.by_number ≡ self.old.by_number }
         ensures next { IfSome result (λ n. (n ≡ self.old.next) × (self.new.next ≡ n + 1)) }
         ensures absent { IfSome result (λ n. connection_at self.old.by_number n ≡ None) }
+        ensures small { IfSome result (λ n. n < 2 ^ 63 - 1) }
     {
         let number = self.next;
-        self.next = number.checked_add(1)?;
+        if number >= MOST_NUMBERS {
+            return None;
+        }
+        self.next = number + 1;
         Some(number)
     }
 
@@ -119,6 +127,16 @@ impl Open {
         }
     }
 
+    /// Asks a connection to report its next turn, as [`Connection::ask`] does.
+    pub(crate) fn ask(&mut self, number: u64)
+        ensures changes { ChangesOne number self.old.by_number self.new.by_number }
+        ensures next { self.new.next ≡ self.old.next }
+    {
+        if let Some(connection) = self.by_number.get_mut(&number) {
+            connection.ask();
+        }
+    }
+
     /// Calls [`Connection::begins_to_wait`]; returns false if no connection has the number.
     pub(crate) fn begins_to_wait(&mut self, number: u64) -> bool
         ensures changes { ChangesOne number self.old.by_number self.new.by_number }
@@ -135,7 +153,7 @@ impl Open {
     pub(crate) fn turn(&mut self, number: u64, now: Duration, buffer: &mut [u8]) -> Turn
         ensures fits { FitsIn buffer.new result }
         ensures quiet { (old : Connection)
-            → connection_at self.old.by_number number ≡ Some old → IsBehind old
+            → connection_at self.old.by_number number ≡ Some old → IsBehind old ⊎ IsAsked old
             → IsQuiet result × (buffer.new ≡ buffer.old) }
         ensures behind { (old : Connection)
             → connection_at self.old.by_number number ≡ Some old → IsBehind old
@@ -215,6 +233,25 @@ impl Open {
         }
     }
 
+    /// Returns the address of the client of a connection; `None` if no connection has the number.
+    pub(crate) fn address_of(&self, number: u64) -> Option<IpAddr>
+        ensures { result ≡ option_map (λ c. c.address) (connection_at self.now.by_number number) }
+    {
+        match self.by_number.get(&number) {
+            Some(connection) => Some(connection.address()),
+            None => None,
+        }
+    }
+
+    /// Returns how many bytes the connections were offered and haven't taken yet.
+    pub(crate) fn untaken(&self) -> u64 {
+        let mut untaken: u64 = 0;
+        for connection in self.by_number.values() {
+            untaken = untaken.saturating_add(connection.untaken());
+        }
+        untaken
+    }
+
     /// Returns the number of the connection that has been idle longest; `None` if no connection is idle.
     pub(crate) fn idlest(&self) -> Option<u64> {
         let mut idlest = None;
@@ -242,6 +279,28 @@ impl Open {
             }
         }
         heaviest
+    }
+
+    /// Returns the first connection from a number on.
+    pub(crate) fn first_from(&self, from: u64) -> Option<u64> {
+        match self.by_number.range(from..).next() {
+            Some((number, _)) => Some(*number),
+            None => None,
+        }
+    }
+
+    /// Returns the first connection, from a number on, that can be shut when the server stops, as
+    /// [`Connection::can_stop`] says.
+    pub(crate) fn stoppable_from(&self, from: u64, may_wait: bool) -> Option<u64>
+        ensures { IfSome result (λ n.
+            IfSome (connection_at self.now.by_number n) IsAtRest) }
+    {
+        for (number, connection) in self.by_number.range(from..) {
+            if connection.can_stop(may_wait) {
+                return Some(*number);
+            }
+        }
+        None
     }
 
     /// Returns the first connection that is late, from a number on, and why.

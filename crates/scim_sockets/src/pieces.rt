@@ -1,5 +1,5 @@
 //! Cuts the bytes of a stream into pieces, and finds which part of a message the stream is in.
-ghost use Rattle.std.specs.Prelude.{◌≤◌, length};
+ghost use Rattle.std.specs.Prelude.{◌≡◌, ◌≤◌, length};
 
 /// The least length of a request that keeps its connection open. A piece is cut behind an empty line only
 /// from this length on, so that a stream of empty lines isn't cut into pieces of a byte or two.
@@ -57,7 +57,9 @@ impl Scan {
     }
 
     /// Returns the part of the message that the stream is in.
-    pub(crate) fn part(self) -> Part {
+    pub(crate) fn part(self) -> Part
+        ensures { result ≡ self.part }
+    {
         self.part
     }
 

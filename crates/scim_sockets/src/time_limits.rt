@@ -4,10 +4,20 @@ use std::time::Duration;
 /// The maximum time in milliseconds that a poll waits when no work is queued.
 pub(crate) const WAIT: u64 = 250;
 
+/// The maximum time in milliseconds that a poll waits after the server was told to stop.
+pub(crate) const LAST_WAIT: u64 = 10;
+
+/// The time in seconds after the server was told to stop during which requests that come are still read.
+pub(crate) const LAST_READS: u64 = 5;
+
+/// The time in seconds after the server was told to stop after which all connections are ended. The last of them
+/// has left within 30 seconds.
+pub(crate) const LAST_REPLIES: u64 = 29;
+
 /// The time in seconds between two searches for late connections.
 pub(crate) const WATCH: u64 = 1;
 
-/// The least time in seconds between two lines about closed connections.
+/// The least time in seconds between two lines of the same kind for the operator.
 pub(crate) const LOG: u64 = 60;
 
 /// The most seconds that count between two looks at the clock. More pass only if the process was stopped, the

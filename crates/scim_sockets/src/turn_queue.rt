@@ -1,25 +1,23 @@
 //! The queue of connections that have work to do.
-ghost use Rattle.std.specs.Prelude.{◌≡◌, ◌+◌, ◌<◌, ◌≤◌, ◌↔◌, None, Some, IfSome, IsTrue, length};
+ghost use Rattle.std.specs.Prelude.{◌≡◌, ◌+◌, ◌-◌, ◌^◌, ◌<◌, ◌≤◌, ◌↔◌, ◌⊎◌, None, Some, IfSome, IsTrue, length, option_map};
 ghost use Rattle.std.specs.BTreeMap.{btree_map_len};
 ghost use Rattle.scim_sockets.specs.declared.connection.Connection.{Connection};
-ghost use Rattle.scim_sockets.specs.Connections.{FitsIn, IsBehind, IsQuiet, StaysBehind};
-ghost use Rattle.scim_sockets.specs.OpenConnections.{connection_at, ChangesOne, KeepsOthers};
+ghost use Rattle.scim_sockets.specs.Connections.{FitsIn, IsAsked, IsBehind, IsQuiet, StaysBehind};
+ghost use Rattle.scim_sockets.specs.OpenConnections.{connection_at, total_weight, ChangesOne, KeepsBusy, KeepsOthers};
 
 use crate::authorization::authorization;
 use crate::clients::Clients;
 use crate::connection::{Connection, Turn};
 use crate::counts::Counts;
 use crate::open_connections::{MOST_OPEN, Open};
+use crate::poll_tokens::Place;
 use crate::time_limits::Limits;
-use mio::Token;
 use mio::event::Event;
 use std::alloc::{AllocError, Global};
 use std::cmp::Reverse;
 use std::collections::BinaryHeap;
+use std::net::IpAddr;
 use std::time::Duration;
-
-/// The token of the listener in the system's reports.
-pub(crate) const LISTENER: Token = Token(usize::MAX);
 
 /// By how much the share of a client may have grown, in milliseconds, since its connection was queued.
 const SLACK: u64 = 1;
@@ -27,15 +25,6 @@ const SLACK: u64 = 1;
 /// The part of the time that counts as used by all clients. It forgets what a client has used, and lets a
 /// connection wait for at most eight times the lead that a client may have.
 const FADING: u32 = 8;
-
-/// An entry of the queue: the listener or a connection.
-#[derive(Clone, Copy, PartialEq, Eq, PartialOrd, Ord)]
-pub(crate) enum Place {
-    /// The listener, which accepts a connection.
-    Door,
-    /// The connection with this number.
-    Connection(u64),
-}
 
 /// A place in the queue. The entry with the least share is the next, and among equals the one that was queued
 /// first.
@@ -57,7 +46,7 @@ enum Door {
     Later,
 }
 
-/// The open connections, and the queue of those that have work to do.
+/// The open connections of a port, and the queue of those that have work to do.
 ///
 /// A connection with work to do is queued at most once, so the queue never outgrows its initial capacity. The
 /// connection whose client has the least share of the server's time is the next. A connection whose turn it was
@@ -78,11 +67,11 @@ pub(crate) struct Turns {
 }
 
 impl Turns {
-    /// Returns an empty set of connections, with an empty queue.
-    pub(crate) fn new(alloc: Global) -> Result<Turns, AllocError> {
+    /// Returns an empty set of connections, with an empty queue that holds `most` connections and the listener.
+    pub(crate) fn new(alloc: Global, most: usize) -> Result<Turns, AllocError> {
         Ok(Turns {
-            queue: BinaryHeap::with_capacity(alloc, MOST_OPEN + 1)?,
-            clients: Clients::new(alloc)?,
+            queue: BinaryHeap::with_capacity(alloc, most.saturating_add(1))?,
+            clients: Clients::new(alloc, most)?,
             connections: Open::new(alloc),
             queued: 0,
             share: Duration::from_secs(0),
@@ -98,11 +87,11 @@ impl Turns {
         self.connections.is_empty()
     }
 
-    /// Whether the maximum number of connections is open.
-    pub(crate) fn is_full(&self) -> bool
-        ensures { IsTrue result ↔ (1024 ≤ btree_map_len self.now.connections.by_number) }
+    /// Returns the number of open connections.
+    pub(crate) fn open(&self) -> usize
+        ensures { result ≡ btree_map_len self.now.connections.by_number }
     {
-        self.connections.is_full()
+        self.connections.len()
     }
 
     /// Returns how many numbers were given to connections.
@@ -119,6 +108,7 @@ impl Turns {
             × (self.new.connections.next ≡ n + 1)) }
         ensures absent { IfSome result (λ n.
             connection_at self.old.connections.by_number n ≡ None) }
+        ensures small { IfSome result (λ n. n < 2 ^ 63 - 1) }
     {
         self.connections.new_number()
     }
@@ -126,6 +116,36 @@ impl Turns {
     /// Returns the length of the queue.
     pub(crate) fn waiting(&self) -> usize {
         self.queue.len()
+    }
+
+    /// Returns the share of the client that was served last.
+    pub(crate) fn share(&self) -> Duration {
+        self.share
+    }
+
+    /// Whether it is the turn of a connection.
+    pub(crate) fn is_serving(&self) -> bool {
+        self.served.is_some()
+    }
+
+    /// Returns the address of the client of a connection, as [`Open::address_of`] does.
+    pub(crate) fn address_of(&self, number: u64) -> Option<IpAddr>
+        ensures { result ≡ option_map (λ c. c.address)
+            (connection_at self.now.connections.by_number number) }
+    {
+        self.connections.address_of(number)
+    }
+
+    /// Returns the sum of the weights of the connections.
+    pub(crate) fn weight(&self) -> u64
+        ensures { result ≡ total_weight self.now.connections.by_number }
+    {
+        self.connections.total()
+    }
+
+    /// Returns how many bytes the connections were offered and haven't taken yet.
+    pub(crate) fn untaken(&self) -> u64 {
+        self.connections.untaken()
     }
 
     /// Queues a place at a share.
@@ -218,12 +238,11 @@ impl Turns {
         }
     }
 
-    /// Handles a report of the system: queues the listener or the connection that the report is about.
-    pub(crate) fn note(&mut self, event: &Event) {
-        if event.token() == LISTENER {
+    /// Handles a report of the system about the listener or a connection, and queues it.
+    pub(crate) fn note(&mut self, place: Place, event: &Event) {
+        let Place::Connection(number) = place else {
             return self.open_door();
-        }
-        let number = event.token().0 as u64;
+        };
         // An error counts as readable and writable: the next call on the socket returns the error.
         let fails = event.is_error() || event.is_read_closed() || event.is_write_closed();
         self.connections.note(
@@ -252,8 +271,8 @@ impl Turns {
     pub(crate) fn turn(&mut self, number: u64, now: Duration, buffer: &mut [u8]) -> Turn
         ensures fits { FitsIn buffer.new result }
         ensures quiet { (old : Connection)
-            → connection_at self.old.connections.by_number number ≡ Some old → IsBehind old
-            → IsQuiet result × (buffer.new ≡ buffer.old) }
+            → connection_at self.old.connections.by_number number ≡ Some old
+            → IsBehind old ⊎ IsAsked old → IsQuiet result × (buffer.new ≡ buffer.old) }
         ensures behind { (old : Connection)
             → connection_at self.old.connections.by_number number ≡ Some old → IsBehind old
             → IfSome (connection_at self.new.connections.by_number number) (StaysBehind old) }
@@ -303,6 +322,16 @@ impl Turns {
         count
     }
 
+    /// Asks a connection to report its next turn, as [`Connection::ask`] does.
+    pub(crate) fn ask(&mut self, number: u64)
+        ensures changes { ChangesOne number self.old.connections.by_number
+            self.new.connections.by_number }
+        ensures next { self.new.connections.next ≡ self.old.connections.next }
+    {
+        self.connections.ask(number);
+        self.enqueue(number);
+    }
+
     /// Shuts a connection, as [`Connection::shut`] does.
     pub(crate) fn shut(&mut self, number: u64, now: Duration)
         ensures changes { ChangesOne number self.old.connections.by_number
@@ -331,12 +360,9 @@ impl Turns {
         }
     }
 
-    /// Ends the connection with the greatest weight, and counts it, if the weights of all together exceed a
-    /// bound.
-    pub(crate) fn relieve(&mut self, most: u64, counts: &mut Counts) {
-        if self.connections.total() > most
-            && let Some(number) = self.connections.heaviest()
-        {
+    /// Ends the connection with the greatest weight, if one has a weight, and counts it.
+    pub(crate) fn end_heaviest(&mut self, counts: &mut Counts) {
+        if let Some(number) = self.connections.heaviest() {
             counts.add_over_memory();
             self.end(number);
         }
@@ -350,6 +376,32 @@ impl Turns {
                 return;
             };
             counts.add_late(late);
+            self.end(number);
+            from = number.saturating_add(1);
+        }
+    }
+
+    /// Shuts the connections that can be shut when the server stops, as [`Connection::can_stop`] says.
+    pub(crate) fn stop_idle(&mut self, now: Duration, may_wait: bool)
+        ensures { KeepsBusy self.old.connections.by_number self.new.connections.by_number }
+    {
+        let mut from = 0;
+        for _ in 0..MOST_OPEN {
+            let Some(number) = self.connections.stoppable_from(from, may_wait) else {
+                return;
+            };
+            self.shut(number, now);
+            from = number.saturating_add(1);
+        }
+    }
+
+    /// Drops the sockets of all connections.
+    pub(crate) fn end_all(&mut self) {
+        let mut from = 0;
+        for _ in 0..MOST_OPEN {
+            let Some(number) = self.connections.first_from(from) else {
+                return;
+            };
             self.end(number);
             from = number.saturating_add(1);
         }
