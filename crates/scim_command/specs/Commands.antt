@@ -2,11 +2,11 @@
 use Rattle.std.specs.Prelude.{ℕ, List, [], ◌∷◌, Option, find, codes}
 use Rattle.scim_schema.specs.Lookup.{is_same_text}
 use Rattle.scim_command.specs.declared.command_line.CommandName.{CommandName}
-use Rattle.scim_command.specs.declared.command_line.CommandName.TheVariants.{Once, Check, Serve, Replay, Explain, Import, Export, Audit}
+use Rattle.scim_command.specs.declared.command_line.CommandName.TheVariants.{Once, Check, Serve, Replay, Explain, Import, Export, Audit, Archive}
 
 -- all commands
 abbrev pub commands : List CommandName
-commands = Once ∷ Check ∷ Serve ∷ Replay ∷ Explain ∷ Import ∷ Export ∷ Audit ∷ []
+commands = Once ∷ Check ∷ Serve ∷ Replay ∷ Explain ∷ Import ∷ Export ∷ Audit ∷ Archive ∷ []
 
 -- the name of a command
 abbrev pub command_name : CommandName → List ℕ
@@ -18,6 +18,7 @@ command_name Explain = codes "explain"
 command_name Import = codes "import"
 command_name Export = codes "export"
 command_name Audit = codes "audit"
+command_name Archive = codes "archive"
 
 -- the command with this name; `None` if there is none
 abbrev pub command_named : List ℕ → Option CommandName

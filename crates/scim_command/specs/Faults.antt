@@ -6,11 +6,12 @@ use Rattle.scim_json.specs.declared.faults.DamagedItem.{DamagedItem}
 use Rattle.scim_policy_file.specs.declared.faults.Cause.TheVariants.{Json}
 use Rattle.scim_policy_file.specs.declared.faults.PolicyFault.{PolicyFault}
 use Rattle.scim_shelf.specs.declared.faults.ShelfFault.{ShelfFault}
+use Rattle.scim_command.specs.declared.command_faults.ArchiveCause.{ArchiveCause}
 use Rattle.scim_command.specs.declared.command_faults.CommandFault.{CommandFault}
-use Rattle.scim_command.specs.declared.command_faults.CommandFault.TheVariants.{NotText, BadOption, CannotRead, Run}
+use Rattle.scim_command.specs.declared.command_faults.CommandFault.TheVariants.{NotText, BadOption, CannotArchive, CannotRead, CannotWrite, Run}
 use Rattle.scim_command.specs.declared.faults.DatabaseFault.TheVariants.{Unusable}
 use Rattle.scim_command.specs.declared.faults.RunFault.{RunFault}
-use Rattle.scim_command.specs.declared.faults.RunFault.TheVariants.{Policy, Users, Tokens, Events, Database, NoMemory}
+use Rattle.scim_command.specs.declared.faults.RunFault.TheVariants.{Policy, Users, Tokens, AdminTokens, SharedToken, Events, Database, NoMemory}
 use Rattle.scim_command.specs.declared.files.FileKind.{FileKind}
 use Rattle.scim_command.specs.declared.files.FileKind.TheVariants as file
 
@@ -39,6 +40,7 @@ IsOfUsers _ = ⊥
 abbrev pub of_no_text : FileKind → RunFault
 of_no_text file.Policy = Policy 0 Json
 of_no_text file.Tokens = Tokens 0
+of_no_text file.AdminTokens = AdminTokens 0
 of_no_text file.Users = Users 0
 of_no_text file.Events = Events 0
 
@@ -47,6 +49,19 @@ abbrev pub IsOfPath : List ℕ → CommandFault → Type 0
 IsOfPath path (CannotRead p) = string_bytes p ≡ path
 IsOfPath path (Run NoMemory) = Unit {0}
 IsOfPath path _ = ⊥
+
+-- the file at this path can't be written, or its path can't be copied for want of memory
+abbrev pub IsOfOutputPath : List ℕ → CommandFault → Type 0
+IsOfOutputPath path (CannotWrite p) = string_bytes p ≡ path
+IsOfOutputPath path (Run NoMemory) = Unit {0}
+IsOfOutputPath path _ = ⊥
+
+-- the database can't be archived to the file at this path for this reason, or the path can't be copied for want of
+-- memory
+abbrev pub IsOfArchive : List ℕ → ArchiveCause → CommandFault → Type 0
+IsOfArchive path cause (CannotArchive p c) = (string_bytes p ≡ path) × (c ≡ cause)
+IsOfArchive path cause (Run NoMemory) = Unit {0}
+IsOfArchive path cause _ = ⊥
 
 -- the file of this kind at this path can't be read, or it isn't UTF-8
 abbrev pub IsOfFile : FileKind → List ℕ → CommandFault → Type 0
@@ -61,6 +76,13 @@ IsOfPolicyAt path fault = IsOfPath path fault
 abbrev pub IsOfTokensAt : List ℕ → CommandFault → Type 0
 IsOfTokensAt path (Run (Tokens n)) = Unit {0}
 IsOfTokensAt path fault = IsOfPath path fault
+
+-- the administrators' token file at this path can't be read, isn't UTF-8 or isn't valid, it shares a token with
+-- the clients' file, or memory ran out
+abbrev pub IsOfAdminTokensAt : List ℕ → CommandFault → Type 0
+IsOfAdminTokensAt path (Run (AdminTokens n)) = Unit {0}
+IsOfAdminTokensAt path (Run (SharedToken n)) = Unit {0}
+IsOfAdminTokensAt path fault = IsOfPath path fault
 
 -- the faults of a command that its options name files for: an invalid option, a file that can't be read, and
 -- the faults that satisfy `Is`

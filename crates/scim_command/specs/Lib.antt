@@ -8,3 +8,4 @@ pub mod code
 pub mod EventFiles
 pub mod Outputs
 pub mod Replays
+pub mod ServeFiles

@@ -1,5 +1,6 @@
 -- The options of the commands: the values that the command line has for them, or their defaults.
-use Rattle.std.specs.Prelude.{◌≡◌, ℕ, Bool, true, false, not, List, Option, None, Some, option_and_then, option_map, codes, MatchOption}
+use Rattle.std.specs.Prelude.{◌≡◌, ℕ, Bool, true, false, not, List, Option, None, Some, option_and_then, option_map, codes, MatchOption, if◌then◌else◌}
+use Rattle.std.specs.Option.{option_copied}
 use Rattle.clap.specs.Words.{first_value, found_of, one_text}
 use Rattle.clap.specs.declared.parser.matches.ArgMatches.{ArgMatches}
 use Rattle.scim_schema.specs.declared.Kind.{Kind}
@@ -9,13 +10,22 @@ use Rattle.scim_schema.specs.Units.{simple, leaf_at}
 use Rattle.scim_filter_grammar.specs.declared.tree.Meant.{Meant}
 use Rattle.scim_filter_grammar.specs.declared.tree.Meant.TheVariants.{Nothing, Attribute, SubAttribute}
 use Rattle.scim_filter_grammar.specs.Spelled.{path_in}
-use Rattle.scim_command.specs.declared.database_options.AuditOptions.{AuditOptions}
+use Rattle.scim_command.specs.declared.database_options.ArchiveOptions.{ArchiveOptions}
+use Rattle.scim_audit_listing.specs.declared.filters.AuditFilter.{AuditFilter}
+use Rattle.scim_audit_listing.specs.declared.listings.LineFormat.{LineFormat}
+use Rattle.scim_audit_listing.specs.declared.listings.LineFormat.TheVariants.{Words, Json}
+use Rattle.scim_audit_listing.specs.declared.listings.Portion.{Portion}
+use Rattle.scim_audit_listing.specs.declared.listings.Portion.TheVariants.{First, Last}
+use Rattle.scim_audit_listing.specs.RefusalNames.{NamesRefusal}
+use Rattle.scim_command.specs.declared.audit_options.AuditOptions.{AuditOptions}
 use Rattle.scim_command.specs.declared.database_options.ImportOptions.{ImportOptions}
 use Rattle.scim_command.specs.declared.explain_options.ExplainOptions.{ExplainOptions}
 use Rattle.scim_command.specs.declared.options.OnceOptions.{OnceOptions}
 use Rattle.scim_command.specs.declared.run_once.Setting.{Setting}
 use Rattle.scim_command.specs.declared.replay_options.ReplayOptions.{ReplayOptions}
+use Rattle.scim_command.specs.declared.serve_options.AdminOptions.{AdminOptions}
 use Rattle.scim_command.specs.declared.serve_options.ServeOptions.{ServeOptions}
+use Rattle.scim_command.specs.declared.serve_options.LimitOptions.{LimitOptions}
 use Rattle.scim_command.specs.EventFiles.{IsMomentText, IsNumberText, IsTextOfId}
 
 -- the value of the option with this name; `None` if it isn't given and has no default
@@ -34,10 +44,14 @@ HasSome matches name Is = (value : List ℕ) × Has matches name value × Is val
 abbrev pub HasNumber : ArgMatches → List ℕ → ℕ → Type 0
 HasNumber matches name n = HasSome matches name (λ value. IsNumberText value n)
 
+-- if the option has a value, it is a text of what was found; otherwise nothing was found
+abbrev pub MayHaveSome : ArgMatches → List ℕ → (List ℕ → ℕ → Type 0) → Option ℕ → Type 0
+MayHaveSome matches name IsText found =
+    MatchOption (value_of matches name) (found ≡ None) (λ value. (n : ℕ) × (found ≡ Some n) × IsText value n)
+
 -- the option has this number as its value, if it has a value
 abbrev pub MayHaveNumber : ArgMatches → List ℕ → Option ℕ → Type 0
-MayHaveNumber matches name found =
-    MatchOption (value_of matches name) (found ≡ None) (λ value. (n : ℕ) × (found ≡ Some n) × IsNumberText value n)
+MayHaveNumber matches name found = MayHaveSome matches name IsNumberText found
 
 -- whether the flag with this name is given
 pub record IsFlag (matches : ArgMatches) (name : List ℕ) (given : Bool) : Type 0 where
@@ -70,6 +84,19 @@ pub record AreOfReplay (matches : ArgMatches) (o : ReplayOptions) : Type 0 where
   pub events : Has matches (codes "events") o.events.now
   pub base : Has matches (codes "base") o.base.now
 
+-- the port and the token file of the administrator; both options have a value, or neither
+abbrev pub MayHaveAdmin : ArgMatches → Option AdminOptions → Type 0
+MayHaveAdmin matches None = (value_of matches (codes "admin-port") ≡ None) × (value_of matches (codes "admin-tokens") ≡ None)
+MayHaveAdmin matches (Some admin) = HasNumber matches (codes "admin-port") admin.port × Has matches (codes "admin-tokens") admin.tokens.now
+
+-- the options of `serve` for the limits of connections
+pub record AreOfLimits (matches : ArgMatches) (o : LimitOptions) : Type 0 where
+  pub idle : HasNumber matches (codes "idle-seconds") o.idle_seconds
+  pub head : HasNumber matches (codes "head-seconds") o.head_seconds
+  pub message : HasNumber matches (codes "message-seconds") o.message_seconds
+  pub rate : HasNumber matches (codes "reply-rate") o.reply_rate
+  pub memory : HasNumber matches (codes "memory") o.memory
+
 -- the options of `serve`
 pub record AreOfServe (matches : ArgMatches) (o : ServeOptions) : Type 0 where
   pub policy : Has matches (codes "policy") o.policy.now
@@ -78,23 +105,45 @@ pub record AreOfServe (matches : ArgMatches) (o : ServeOptions) : Type 0 where
   pub port : HasNumber matches (codes "port") o.port
   pub base : Has matches (codes "base") o.base.now
   pub connections : MayHaveNumber matches (codes "connections") o.connections
-  pub idle : HasNumber matches (codes "idle-seconds") o.idle_seconds
-  pub head : HasNumber matches (codes "head-seconds") o.head_seconds
-  pub message : HasNumber matches (codes "message-seconds") o.message_seconds
-  pub rate : HasNumber matches (codes "reply-rate") o.reply_rate
-  pub memory : HasNumber matches (codes "memory") o.memory
+  pub limits : AreOfLimits matches o.limits
   pub cache : IsFlag matches (codes "no-cache") (not o.has_cache)
+  pub admin : MayHaveAdmin matches o.admin
+  pub audit_log : value_of matches (codes "audit-log") ≡ option_copied o.audit_log
+
+-- the portion of the rows that `audit` prints: the last rows with `--last`, and otherwise the first, 100 without
+-- `--count`; the two options aren't given together
+abbrev pub IsPortion : ArgMatches → Portion → Type 0
+IsPortion matches (First n) =
+    (value_of matches (codes "last") ≡ None) × MatchOption (value_of matches (codes "count")) (n ≡ 100) (λ value. IsNumberText value n)
+IsPortion matches (Last n) = (value_of matches (codes "count") ≡ None) × HasNumber matches (codes "last") n
+
+-- the conditions of the rows that `audit` prints
+pub record IsAuditFilter (matches : ArgMatches) (f : AuditFilter) : Type 0 where
+  pub client : option_copied f.client ≡ value_of matches (codes "client")
+  pub since : MayHaveSome matches (codes "since") IsMomentText f.since
+  pub refusal : MayHaveSome matches (codes "refusal") NamesRefusal f.refusal
+
+-- the form of the lines: JSON with `--json`
+abbrev pub IsFormat : ArgMatches → LineFormat → Type 0
+IsFormat matches format = (json : Bool) × IsFlag matches (codes "json") json × (format ≡ (if json then Json else Words))
 
 -- the options of `audit`
 pub record AreOfAudit (matches : ArgMatches) (o : AuditOptions) : Type 0 where
   pub database : Has matches (codes "db") o.database.now
-  pub from : HasNumber matches (codes "from") o.from
-  pub count : HasNumber matches (codes "count") o.count
+  pub from : HasNumber matches (codes "from") o.listing.from
+  pub portion : IsPortion matches o.listing.portion
+  pub filter : IsAuditFilter matches o.listing.filter
+  pub format : IsFormat matches o.listing.format
 
 -- the options of `import`
 pub record AreOfImport (matches : ArgMatches) (o : ImportOptions) : Type 0 where
   pub database : Has matches (codes "db") o.database.now
   pub users : Has matches (codes "users") o.users.now
+
+-- the options of `archive`
+pub record AreOfArchive (matches : ArgMatches) (o : ArchiveOptions) : Type 0 where
+  pub database : Has matches (codes "db") o.database.now
+  pub archive : Has matches (codes "to") o.archive.now
 
 -- the leaf that a path means, if it means one
 abbrev pub leaf_meant : Meant → Option Leaf

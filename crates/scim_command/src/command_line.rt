@@ -2,14 +2,12 @@
 ghost use Rattle.std.specs.Prelude.{◌≡◌};
 ghost use Rattle.scim_command.specs.Commands.{command_name, command_named, commands};
 
-use crate::option_defaults::{
-    DEFAULT_AT, DEFAULT_BASE, DEFAULT_COUNT, DEFAULT_FIRST, DEFAULT_FROM, DEFAULT_PORT,
-};
+use crate::option_defaults::{DEFAULT_AT, DEFAULT_BASE, DEFAULT_FIRST, DEFAULT_FROM, DEFAULT_PORT};
 use clap::{Arg, ArgAction, Command};
 use std::alloc::{AllocError, Global};
 
 /// The version of the program.
-const VERSION: &str = "0.1.0";
+pub const VERSION: &str = "0.1.0";
 
 /// A command of the program.
 #[derive(Clone, Copy)]
@@ -30,6 +28,8 @@ pub enum CommandName {
     Export,
     /// Prints rows of the audit.
     Audit,
+    /// Archives a database with its audit, and goes on with an empty audit.
+    Archive,
 }
 
 impl CommandName {
@@ -46,6 +46,7 @@ impl CommandName {
             CommandName::Import,
             CommandName::Export,
             CommandName::Audit,
+            CommandName::Archive,
         ]
     }
 
@@ -62,6 +63,7 @@ impl CommandName {
             CommandName::Import => "import",
             CommandName::Export => "export",
             CommandName::Audit => "audit",
+            CommandName::Archive => "archive",
         }
     }
 
@@ -141,7 +143,7 @@ const BASE: OptionText = OptionText {
     help: "Base URL of the resources",
 };
 
-const COMMANDS: [CommandText; 8] = [
+const COMMANDS: [CommandText; 9] = [
     CommandText {
         command: CommandName::Once,
         about: "Answer one HTTP request from standard input over a users file",
@@ -222,6 +224,21 @@ const COMMANDS: [CommandText; 8] = [
                 form: OptionForm::Flag,
                 help: "Read resources from the database instead of caching them in memory",
             },
+            OptionText {
+                name: "admin-port",
+                form: OptionForm::Optional("N"),
+                help: "Port for administrators; 0 picks a free port (default: no such port)",
+            },
+            OptionText {
+                name: "admin-tokens",
+                form: OptionForm::Optional("FILE"),
+                help: "File of the administrators' bearer tokens, in the form of --tokens; given with --admin-port",
+            },
+            OptionText {
+                name: "audit-log",
+                form: OptionForm::Optional("FILE"),
+                help: "File to which the line of each row of the audit is appended",
+            },
         ],
     },
     CommandText {
@@ -286,12 +303,49 @@ const COMMANDS: [CommandText; 8] = [
             OptionText {
                 name: "from",
                 form: OptionForm::WithDefault("N", DEFAULT_FROM),
-                help: "Number of the first row to print",
+                help: "Number of the first row that may be printed",
             },
             OptionText {
                 name: "count",
-                form: OptionForm::WithDefault("N", DEFAULT_COUNT),
-                help: "Maximum number of rows to print",
+                form: OptionForm::Optional("N"),
+                help: "Print at most this many rows, the first that fit (default: 100)",
+            },
+            OptionText {
+                name: "last",
+                form: OptionForm::Optional("N"),
+                help: "Print at most this many rows, the last that fit; not together with --count",
+            },
+            OptionText {
+                name: "client",
+                form: OptionForm::Optional("NAME"),
+                help: "Only rows of this client",
+            },
+            OptionText {
+                name: "since",
+                form: OptionForm::Optional("MOMENT"),
+                help: "Only rows from this moment on, such as 2024-06-01T12:00:00Z",
+            },
+            OptionText {
+                name: "refusal",
+                form: OptionForm::Optional("F"),
+                help: "Only rows with this refusal: F1 to F21",
+            },
+            OptionText {
+                name: "json",
+                form: OptionForm::Flag,
+                help: "Print each row as a JSON object",
+            },
+        ],
+    },
+    CommandText {
+        command: CommandName::Archive,
+        about: "Move a database with its audit to an archive, and go on with its resources and an empty audit",
+        options: &[
+            DATABASE,
+            OptionText {
+                name: "to",
+                form: OptionForm::Required("FILE"),
+                help: "File of the archive, which must not exist",
             },
         ],
     },

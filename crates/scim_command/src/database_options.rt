@@ -1,24 +1,13 @@
-//! The options of the commands `audit`, `export` and `import`.
+//! The options of the commands `export`, `import` and `archive`, and numbers as options.
 ghost use Rattle.std.specs.Prelude.{◌≡◌, IfOk, IfErr, codes};
 ghost use Rattle.scim_command.specs.EventFiles.{IsNumberText};
-ghost use Rattle.scim_command.specs.Options.{AreOfAudit, AreOfImport, Has};
+ghost use Rattle.scim_command.specs.Options.{AreOfArchive, AreOfImport, Has};
 ghost use Rattle.scim_command.specs.declared.command_faults.CommandFault.{CommandFault};
 
 use crate::command_faults::CommandFault;
 use crate::event_lines::number_in;
 use crate::options::text_of;
 use clap::ArgMatches;
-
-/// The options of `audit`.
-#[derive(Clone, Copy)]
-pub struct AuditOptions<'a> {
-    /// The path of the database.
-    pub database: &'a str,
-    /// The number of the first row to print.
-    pub from: u64,
-    /// The maximum number of rows to print.
-    pub count: u64,
-}
 
 /// The options of `export`.
 #[derive(Clone, Copy)]
@@ -36,18 +25,13 @@ pub struct ImportOptions<'a> {
     pub users: &'a str,
 }
 
-impl<'a> AuditOptions<'a> {
-    /// Reads the options of `audit`. Fails with `BadOption` if a number isn't digits or exceeds 64 bits.
-    pub fn of(matches: &ArgMatches<'a>) -> Result<AuditOptions<'a>, CommandFault>
-        ensures options { IfOk result (AreOfAudit matches.now) }
-        ensures fault { IfErr result (λ f. f ≡ CommandFault.BadOption) }
-    {
-        Ok(AuditOptions {
-            database: text_of(matches, "db")?,
-            from: number_of(text_of(matches, "from")?)?,
-            count: number_of(text_of(matches, "count")?)?,
-        })
-    }
+/// The options of `archive`.
+#[derive(Clone, Copy)]
+pub struct ArchiveOptions<'a> {
+    /// The path of the database.
+    pub database: &'a str,
+    /// The path of the archive.
+    pub archive: &'a str,
 }
 
 impl<'a> ExportOptions<'a> {
@@ -71,6 +55,19 @@ impl<'a> ImportOptions<'a> {
         Ok(ImportOptions {
             database: text_of(matches, "db")?,
             users: text_of(matches, "users")?,
+        })
+    }
+}
+
+impl<'a> ArchiveOptions<'a> {
+    /// Reads the options of `archive`.
+    pub fn of(matches: &ArgMatches<'a>) -> Result<ArchiveOptions<'a>, CommandFault>
+        ensures options { IfOk result (AreOfArchive matches.now) }
+        ensures fault { IfErr result (λ f. f ≡ CommandFault.BadOption) }
+    {
+        Ok(ArchiveOptions {
+            database: text_of(matches, "db")?,
+            archive: text_of(matches, "to")?,
         })
     }
 }

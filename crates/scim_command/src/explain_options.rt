@@ -84,7 +84,7 @@ fn leaf_given(matches: &ArgMatches<'_>, kind: Kind) -> Result<Option<Leaf>, Comm
 }
 
 /// Returns the leaf of the kind that a path names; `None` if the path doesn't name exactly one leaf.
-fn leaf_at(kind: Kind, path: &str) -> Option<Leaf>
+pub fn leaf_at(kind: Kind, path: &str) -> Option<Leaf>
     ensures { IfSome result (λ leaf. leaf_named kind path.now ≡ Some leaf) }
 {
     let leaf = match attribute_path(kind, path)? {

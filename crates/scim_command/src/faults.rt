@@ -18,6 +18,12 @@ pub enum RunFault {
     Users(usize),
     /// The token file is invalid: the number of the first invalid line, from 1; 0 if the file isn't UTF-8.
     Tokens(usize),
+    /// The token file of the administrators is invalid: the number of the first invalid line, from 1; 0 if the
+    /// file isn't UTF-8.
+    AdminTokens(usize),
+    /// A token of an administrator is one of a client, too: the number of the first such line, from 1, of the
+    /// administrators' token file.
+    SharedToken(usize),
     /// The events file is invalid: the number of the first invalid line, from 1; 0 if the file isn't UTF-8.
     Events(usize),
     /// The input ended before the request did.
@@ -77,6 +83,10 @@ impl fmt::Display for RunFault {
             RunFault::Policy { rule, cause } => write!(f, "policy: rule {rule}: {cause}"),
             RunFault::Users(number) => numbered(f, "users: item", *number),
             RunFault::Tokens(number) => numbered(f, "tokens: line", *number),
+            RunFault::AdminTokens(number) => numbered(f, "admin tokens: line", *number),
+            RunFault::SharedToken(number) => {
+                write!(f, "admin tokens: line {number}: token of a client")
+            }
             RunFault::Events(number) => numbered(f, "events: line", *number),
             RunFault::InputEnded | RunFault::InputFailed => f.write_str("input ended early"),
             RunFault::Database(fault) => write!(f, "database: {fault}"),

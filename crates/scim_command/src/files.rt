@@ -21,6 +21,8 @@ pub enum FileKind {
     Policy,
     /// A file of the clients' tokens.
     Tokens,
+    /// A file of the administrators' tokens.
+    AdminTokens,
     /// A users file, which contains resources.
     Users,
     /// An events file, which contains events of connections.
@@ -37,6 +39,7 @@ fn not_text(kind: FileKind) -> CommandFault
             cause: Cause::Json,
         },
         FileKind::Tokens => RunFault::Tokens(0),
+        FileKind::AdminTokens => RunFault::AdminTokens(0),
         FileKind::Users => RunFault::Users(0),
         FileKind::Events => RunFault::Events(0),
     })

@@ -3,6 +3,7 @@
 #![tactic(auto)]
 
 mod answers;
+mod audit_options;
 mod borrowed_events;
 mod checks;
 mod command_faults;
@@ -23,17 +24,19 @@ mod replay_options;
 mod replaying;
 mod replays;
 mod run_once;
+mod serve_files;
 mod serve_options;
 mod token_files;
 mod writing;
 
+pub use audit_options::AuditOptions;
 pub use borrowed_events::events_of;
 pub use checks::check;
-pub use command_faults::CommandFault;
-pub use command_line::{CommandName, command};
-pub use database_options::{AuditOptions, ExportOptions, ImportOptions};
+pub use command_faults::{ArchiveCause, CommandFault, OneLine};
+pub use command_line::{CommandName, VERSION, command};
+pub use database_options::{ArchiveOptions, ExportOptions, ImportOptions};
 pub use event_files::{FaultyLine, read_events};
-pub use explain_options::ExplainOptions;
+pub use explain_options::{ExplainOptions, leaf_at};
 pub use faults::{DatabaseFault, RunFault};
 pub use file_commands::{check_over_files, once_over_files};
 pub use files::{FileKind, find_file, policy_at, read_file};
@@ -44,5 +47,6 @@ pub use replay_options::ReplayOptions;
 pub use replaying::{replay_over_files, tokens_at};
 pub use replays::{Recording, replay};
 pub use run_once::{Setting, once};
-pub use serve_options::ServeOptions;
+pub use serve_files::{ServeFiles, serve_files_at};
+pub use serve_options::{AdminOptions, LimitOptions, ServeOptions};
 pub use writing::write_or_fault;

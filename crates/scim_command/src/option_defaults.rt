@@ -16,4 +16,4 @@ pub(crate) const DEFAULT_FIRST: &str = "00000000-0000-0000-0000-000000000000";
 pub(crate) const DEFAULT_FROM: &str = "1";
 
 /// The default of `audit --count`: the maximum number of rows to print.
-pub(crate) const DEFAULT_COUNT: &str = "100";
+pub(crate) const DEFAULT_COUNT: u64 = 100;

@@ -92,7 +92,7 @@ pub(crate) fn text_of<'a>(matches: &ArgMatches<'a>, name: &str) -> Result<&'a st
 }
 
 /// Parses a time. Fails with `BadOption` if the text doesn't have the form in which the server prints times.
-fn moment_of(alloc: Global, text: &str) -> Result<Moment, CommandFault>
+pub(crate) fn moment_of(alloc: Global, text: &str) -> Result<Moment, CommandFault>
     ensures moment { IfOk result (IsMomentText text.now) }
     ensures fault { IfErr result IsOfOptions }
 {

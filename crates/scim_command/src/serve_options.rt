@@ -1,7 +1,7 @@
 //! The options of the command `serve`.
 ghost use Rattle.std.specs.Prelude.{◌≡◌, IfOk, IfErr, codes};
 ghost use Rattle.scim_command.specs.EventFiles.{IsNumberText};
-ghost use Rattle.scim_command.specs.Options.{AreOfServe, MayHaveNumber};
+ghost use Rattle.scim_command.specs.Options.{AreOfLimits, AreOfServe, MayHaveAdmin, MayHaveNumber};
 ghost use Rattle.scim_command.specs.declared.command_faults.CommandFault.{CommandFault};
 
 use crate::command_faults::CommandFault;
@@ -24,6 +24,19 @@ pub struct ServeOptions<'a> {
     pub base: &'a str,
     /// The number of connections after which the server ends; if `None`, it runs until stopped.
     pub connections: Option<u64>,
+    /// The limits of connections.
+    pub limits: LimitOptions,
+    /// Whether resources are also cached in memory.
+    pub has_cache: bool,
+    /// The options of the administrator; if `None`, no administrator is served.
+    pub admin: Option<AdminOptions<'a>>,
+    /// The path of the audit log; if `None`, none is written.
+    pub audit_log: Option<&'a str>,
+}
+
+/// The options of `serve` for the limits of connections.
+#[derive(Clone, Copy)]
+pub struct LimitOptions {
     /// The seconds of silence after which a connection is closed.
     pub idle_seconds: u64,
     /// The seconds that a head may take.
@@ -34,13 +47,20 @@ pub struct ServeOptions<'a> {
     pub reply_rate: u64,
     /// The MiB of unfinished messages and waiting replies that the server holds.
     pub memory: u64,
-    /// Whether resources are also cached in memory.
-    pub has_cache: bool,
+}
+
+/// The options of `serve` for the administrator.
+#[derive(Clone, Copy)]
+pub struct AdminOptions<'a> {
+    /// The port on 127.0.0.1 to listen on for administrators; 0 selects a free port.
+    pub port: u16,
+    /// The path of the administrators' token file.
+    pub tokens: &'a str,
 }
 
 impl<'a> ServeOptions<'a> {
     /// Reads the options of `serve`. Fails with `BadOption` if a number isn't digits, exceeds 64 bits, or is
-    /// a port above 65,535.
+    /// a port above 65,535, or if only one of `--admin-port` and `--admin-tokens` is given.
     pub fn of(matches: &ArgMatches<'a>) -> Result<ServeOptions<'a>, CommandFault>
         ensures options { IfOk result (AreOfServe matches.now) }
         ensures fault { IfErr result (λ f. f ≡ CommandFault.BadOption) }
@@ -52,13 +72,49 @@ impl<'a> ServeOptions<'a> {
             port: port_of(text_of(matches, "port")?)?,
             base: text_of(matches, "base")?,
             connections: connections_of(matches)?,
+            limits: LimitOptions::of(matches)?,
+            has_cache: !matches.get_flag("no-cache"),
+            admin: AdminOptions::of(matches)?,
+            audit_log: matches.get_str("audit-log"),
+        })
+    }
+}
+
+impl LimitOptions {
+    /// Reads the options for the limits of connections. Fails with `BadOption` if a number isn't digits or
+    /// exceeds 64 bits.
+    fn of(matches: &ArgMatches<'_>) -> Result<LimitOptions, CommandFault>
+        ensures options { IfOk result (AreOfLimits matches.now) }
+        ensures fault { IfErr result (λ f. f ≡ CommandFault.BadOption) }
+    {
+        Ok(LimitOptions {
             idle_seconds: number_of(text_of(matches, "idle-seconds")?)?,
             head_seconds: number_of(text_of(matches, "head-seconds")?)?,
             message_seconds: number_of(text_of(matches, "message-seconds")?)?,
             reply_rate: number_of(text_of(matches, "reply-rate")?)?,
             memory: number_of(text_of(matches, "memory")?)?,
-            has_cache: !matches.get_flag("no-cache"),
         })
+    }
+}
+
+impl<'a> AdminOptions<'a> {
+    /// Reads the options for the administrator, if given. Fails with `BadOption` if only one of them is given,
+    /// or if the port isn't digits or exceeds 65,535.
+    fn of(matches: &ArgMatches<'a>) -> Result<Option<AdminOptions<'a>>, CommandFault>
+        ensures options { IfOk result (MayHaveAdmin matches.now) }
+        ensures fault { IfErr result (λ f. f ≡ CommandFault.BadOption) }
+    {
+        match (
+            matches.get_str("admin-port"),
+            matches.get_str("admin-tokens"),
+        ) {
+            (Some(port), Some(tokens)) => Ok(Some(AdminOptions {
+                port: port_of(port)?,
+                tokens,
+            })),
+            (None, None) => Ok(None),
+            _ => Err(CommandFault::BadOption),
+        }
     }
 }
 

@@ -9,7 +9,7 @@ use Rattle.scim_hub.specs.Events.{none_joined}
 use Rattle.scim_hub.specs.HubStates.{IsHubState}
 use Rattle.scim_command.specs.Once.{IsStoreOf}
 use Rattle.scim_command.specs.declared.faults.RunFault.{RunFault}
-use Rattle.scim_command.specs.declared.faults.RunFault.TheVariants.{Policy, Users, Tokens, Events, NoMemory}
+use Rattle.scim_command.specs.declared.faults.RunFault.TheVariants.{Policy, Users, Tokens, AdminTokens, SharedToken, Events, NoMemory}
 use Rattle.scim_command.specs.declared.replays.Recording.{Recording}
 
 -- the fault is `Tokens` or `NoMemory`
@@ -17,6 +17,13 @@ abbrev pub IsOfTokens : RunFault → Type 0
 IsOfTokens (Tokens n) = Unit {0}
 IsOfTokens NoMemory = Unit {0}
 IsOfTokens _ = ⊥
+
+-- the fault is `AdminTokens`, `SharedToken` or `NoMemory`
+abbrev pub IsOfAdminTokens : RunFault → Type 0
+IsOfAdminTokens (AdminTokens n) = Unit {0}
+IsOfAdminTokens (SharedToken n) = Unit {0}
+IsOfAdminTokens NoMemory = Unit {0}
+IsOfAdminTokens _ = ⊥
 
 -- the fault is `Policy`, `Tokens`, `Users` or `NoMemory`
 abbrev pub IsOfFiles : RunFault → Type 0
