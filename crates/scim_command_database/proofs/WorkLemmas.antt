@@ -6,11 +6,10 @@ use Rattle.sqlite.specs.State.{State, HasCleanDisk, Survives}
 use Rattle.sqlite.proofs.StateLemmas.{survives_then}
 use Rattle.scim_shelf.specs.Stores.{Store, AreKeyed}
 use Rattle.scim_shelf.proofs.Facts.{keyed_nil}
-use Rattle.scim_store_tables.specs.Reading.{Spares}
-use Rattle.scim_store_tables.specs.Tables.{store_schema}
 use Rattle.scim_store.specs.Shelves.{HasOpened, IsKeptIn, LeavesBegun, Opens}
 use Rattle.scim_command.specs.declared.command_faults.CommandFault.{CommandFault}
 use Rattle.scim_command.specs.declared.faults.RunFault.{RunFault}
+use Rattle.scim_command_database.specs.Audit.{SparesStore}
 use Rattle.scim_command_database.specs.Works.{KeepsStoreOf, Reads, program_result}
 
 -- the resources of an opened store are in order and share no unique name
@@ -50,9 +49,11 @@ ran_over base its below old mid new rows later IsFault Holds done result same is
 )
 
 -- a crash during reads of an opened store leaves what opening it may leave
-pub opened_spared : (base : List ℕ) (old mid new : State) (rows : ℕ) → Survives old mid (LeavesBegun base old)
-    → (HasCleanDisk mid → (store : Store) × HasOpened base old.now mid rows store) → Spares mid new → Survives old new (LeavesBegun base old)
-opened_spared base old mid new rows begun opened spares =
-    let schema = λ (clean : HasCleanDisk mid). let found = opened clean in ((found.1.kept.stored clean).stands found.1.is_open).tables.schema in
-    survives_then old mid new (LeavesBegun base old) (λ _. mid.now.schema ≢ store_schema) (LeavesBegun base old) (λ clean db left. left)
-    (λ clean db altered. absurd (altered (schema (omega (arith, spares.clean))))) begun spares
+pub opened_spared : (base its : List ℕ) (old mid new : State) (rows : ℕ) → its ≡ base → Survives old mid (LeavesBegun base old)
+    → (HasCleanDisk mid → (store : Store) × HasOpened base old.now mid rows store) → SparesStore (IsKeptIn its mid rows) mid new → Survives old new (LeavesBegun base old)
+opened_spared base its old mid new rows same begun opened spares =
+    survives_then old mid new (LeavesBegun base old) _ (LeavesBegun base old) (λ clean db left. left)
+    (λ clean db none.
+    let found = opened (omega (arith, clean, spares.clean)) in
+    let stored = found.1.kept.stored (omega (arith, clean, spares.clean)) in
+    absurd (none (stored.stands found.1.is_open).tables.schema found.0 (subst (λ (b : List ℕ). IsKeptIn b mid rows found.0) (sym same) found.1.kept))) begun spares

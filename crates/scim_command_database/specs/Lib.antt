@@ -1,3 +1,4 @@
+pub mod Archives
 pub mod Audit
 pub mod Explaining
 pub mod Exports

@@ -89,7 +89,7 @@ pub fn explain<H: Shelf, W: Write>(
 }
 
 /// Returns the text that answers the question for the resource.
-fn told(
+pub fn told(
     alloc: Global,
     policy: &Policy,
     question: &Question<'_>,

@@ -94,7 +94,7 @@ pub fn export<H: Shelf, W: Write>(
 }
 
 /// Returns the text of the users file of a store. Fails with `Database` if the store can't be read.
-fn export_text<H: Shelf>(alloc: Global, shelf: &mut H) -> Result<String, RunFault>
+pub(crate) fn export_text<H: Shelf>(alloc: Global, shelf: &mut H) -> Result<String, RunFault>
     ensures text { IfOk result (Answers H.stands H.is_honest shelf.old shelf.new (λ store text.
         string_bytes text ≡ spec.export_text store.resources)) }
     ensures store { KeepsStore H.stands shelf.old shelf.new }

@@ -1,9 +1,10 @@
-//! The commands over a database: `explain`, `import`, `export` and `audit`, generic in the storage and the
-//! output.
+//! The commands over a database: `explain`, `import`, `export`, `audit` and `archive`, generic in the storage and
+//! the output.
 //!
 //! Cases: `crates/cases/data/database_commands.jsonl`.
 #![tactic(auto)]
 
+mod archiving;
 mod auditing;
 mod explaining;
 mod exporting;
@@ -12,10 +13,11 @@ mod importing;
 mod laws;
 mod works;
 
+pub use archiving::{archive, archive_databases};
 pub use auditing::print_audit;
-pub use explaining::{Question, explain};
+pub use explaining::{Question, explain, told};
 pub use exporting::export;
 pub use faults::unopened;
 pub use importing::import;
 pub use laws::exports_are_imported;
-pub use works::{DatabaseWork, Explaining, Importing, open_cached};
+pub use works::{Auditing, DatabaseWork, Explaining, Importing, open_cached};

@@ -17,7 +17,8 @@ use crate::explaining::{Question, explain};
 use crate::exporting::export;
 use crate::faults::open_fault;
 use crate::importing::import;
-use scim_command::{AuditOptions, CommandFault, DEFAULT_BASE, ExportOptions, RunFault};
+use scim_audit_listing::Listing;
+use scim_command::{CommandFault, DEFAULT_BASE, ExportOptions, RunFault};
 use scim_policy::Policy;
 use scim_shelf::{CacheContents, CachedShelf, Shelf};
 use scim_store::SqlShelf;
@@ -87,16 +88,19 @@ impl DatabaseWork for Explaining<'_> {
     }
 }
 
-/// The command `audit`: writes rows of the audit.
-impl DatabaseWork for AuditOptions<'_> {
+/// The command `audit`: writes the text of a listing of the audit.
+#[derive(Clone, Copy)]
+pub struct Auditing<'a>(pub &'a Listing<'a>);
+
+impl DatabaseWork for Auditing<'_> {
     ghost use Rattle.sqlite.specs.State.{Survives};
     ghost use Rattle.scim_store.specs.Shelves.{LeavesBegun};
     ghost use Rattle.scim_command.specs.Options.{default_base};
-    ghost use Rattle.scim_command_database.specs.Audit.{audit_text};
+    ghost use Rattle.scim_audit_listing.specs.Listings.{listed};
     ghost use Rattle.scim_command_database.specs.Faults.{IsDatabaseFault};
     ghost use Rattle.scim_command_database.specs.Works.{Reads, Writes};
 
-    ghost does = { λ work old new result before after. Reads default_base IsDatabaseFault (λ done store. Writes before after (audit_text work.from work.count store.audit) done) old new result × Survives old new (LeavesBegun default_base old) };
+    ghost does = { λ work old new result before after. Reads default_base IsDatabaseFault (λ done store. Writes before after (listed work.0.now store.audit) done) old new result × Survives old new (LeavesBegun default_base old) };
 
     fn over<S: Alter + Drop, W: Write>(
         self,
@@ -107,7 +111,7 @@ impl DatabaseWork for AuditOptions<'_> {
         match open_store(alloc, connection, DEFAULT_BASE, &mut CacheContents::none()) {
             Ok(shelf) => {
                 let mut shelf = shelf;
-                let done = print_audit(alloc, &mut shelf, self.from, self.count, writer);
+                let done = print_audit(alloc, &mut shelf, self.0, writer);
                 (of_run(done), shelf.into_connection())
             }
             Err((fault, connection)) => (Err(fault), connection),
@@ -168,7 +172,7 @@ impl DatabaseWork for Importing<'_> {
 /// If [`SqlShelf::open`] fails, returns its error, converted to an error of the program, and the connection:
 /// it is closed, or its database is unchanged or as the last commit left it, except that the tables may have
 /// been created in an empty database.
-fn open_store<S: Alter + Drop>(
+pub(crate) fn open_store<S: Alter + Drop>(
     alloc: Global,
     connection: Connection<S>,
     base: &str,
@@ -195,7 +199,7 @@ fn open_store<S: Alter + Drop>(
 }
 
 /// Converts the error of a command, if any, to an error of the program.
-fn of_run(done: Result<(), RunFault>) -> Result<(), CommandFault>
+pub(crate) fn of_run(done: Result<(), RunFault>) -> Result<(), CommandFault>
     ensures { result ≡ program_result done }
 {
     match done {
