@@ -1,0 +1,2 @@
+-- The states of the code's own values.
+pub mod Names
