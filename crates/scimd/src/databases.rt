@@ -1,16 +1,17 @@
 //! The commands over a database file.
+use crate::database_files::create_database_file;
 use clap::ArgMatches;
 use scim_command::{
     AuditOptions, CommandFault, DEFAULT_BASE, DatabaseFault, ExplainOptions, ExportOptions,
     FileKind, ImportOptions, RunFault, find_file, policy_at, read_file,
 };
-use scim_command_database::{DatabaseWork, Explaining, Importing, Question, unopened};
+use scim_command_database::{Auditing, DatabaseWork, Explaining, Importing, Question, unopened};
 use scim_json::check_documents;
 use scim_store_tables::foreign_object;
 use sqlite::{Alter, Connection};
 
-/// Opens the database at a path, runs a command on it, and closes it. Creates the file if it doesn't exist. If
-/// the command can't use the database, prints on standard error which table, index or view isn't one of this
+/// Opens the database at a path, runs a command on it, and closes it. If the file doesn't exist, creates it so that
+/// only its owner can read and write it. If the command can't use the database, prints on standard error which table, index or view isn't one of this
 /// server's, if there is one.
 ///
 /// Fails with `Database` or `NoMemory` if the database can't be opened, or with the error of the command. A
@@ -21,12 +22,11 @@ pub(crate) fn with_database<W: DatabaseWork + Drop>(
     path: &str,
     work: W,
 ) -> Result<(), CommandFault> {
+    create_database_file(rt, path);
     match Connection::open(rt, path) {
         Ok(connection) => {
             let (done, connection) = work.over(rt.alloc(), connection, &mut rt.stdout());
-            if is_unusable(&done) {
-                tell_foreign_object(rt, &connection);
-            }
+            tell_if_unusable(rt, &done, &connection);
             let _closed = connection.close();
             done
         }
@@ -42,6 +42,18 @@ fn is_unusable(done: &Result<(), CommandFault>) -> bool {
             CommandFault::Run(fault) => *fault == RunFault::Database(DatabaseFault::Unusable),
             _ => false,
         },
+    }
+}
+
+/// If a command failed because it can't use the database, prints a line on standard error that names the first
+/// table, index or view that isn't one of this server's, if there is one.
+pub(crate) fn tell_if_unusable<S: Alter>(
+    rt: &HostRuntime,
+    done: &Result<(), CommandFault>,
+    connection: &Connection<S>,
+) {
+    if is_unusable(done) {
+        tell_foreign_object(rt, connection);
     }
 }
 
@@ -76,8 +88,8 @@ pub(crate) fn run_explain(rt: &HostRuntime, matches: &ArgMatches<'_>) -> Result<
 
 /// Runs `audit`: prints rows of the audit.
 pub(crate) fn run_audit(rt: &HostRuntime, matches: &ArgMatches<'_>) -> Result<(), CommandFault> {
-    let options = AuditOptions::of(matches)?;
-    with_database_there(rt, options.database, options)
+    let options = AuditOptions::of(rt.alloc(), matches)?;
+    with_database_there(rt, options.database, Auditing(&options.listing))
 }
 
 /// Runs `export`: writes the users file of a store.

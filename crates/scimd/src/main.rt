@@ -3,8 +3,12 @@
 //! The exit status is 0 on success, 2 for an error in the command line, and 1 for any other error.
 #![tactic(auto)]
 
+mod audit_logs;
+mod database_files;
 mod databases;
+mod log_watches;
 mod servers;
+mod start_lines;
 
 use clap::{ArgMatches, Error};
 use databases::{run_audit, run_explain, run_export, run_import};
@@ -15,16 +19,29 @@ use scim_command::{
 use servers::run_serve;
 use std::io::ErrorKind;
 use std::process::ExitCode;
+use std::random::RandomSource;
 use std::{env, io};
+
+/// The bytes of stack that the deepest calls of the program need, and some more.
+const STACK: usize = 256 * 1024;
 
 /// Runs the command that the arguments name. If standard error can't be written, or memory runs out for the
 /// arguments, only the exit status shows the failure.
 fn main(rt: HostRuntime) -> ExitCode {
+    take_stack(&rt);
     match words(&rt) {
         Ok(words) => run_words(&rt, words.as_slice()),
         Err(error) if error.kind() == ErrorKind::InvalidData => tell(&rt, &CommandFault::NotText),
         Err(_) => ExitCode::FAILURE,
     }
+}
+
+/// Takes the stack that the program needs from the system before any other memory, since there is no fault for a
+/// stack that can't grow. The call keeps the compiler from leaving out the array.
+#[inline(never)]
+fn take_stack(rt: &HostRuntime) {
+    let mut bytes = [0; STACK];
+    let _filled = rt.fill_bytes(&mut bytes[..1]);
 }
 
 /// Returns the arguments of the program. Fails with `InvalidData` if an argument isn't UTF-8.
@@ -75,6 +92,7 @@ fn run_command(rt: &HostRuntime, matches: &ArgMatches<'_>) -> Result<(), Command
         Some(CommandName::Audit) => run_audit(rt, matches),
         Some(CommandName::Export) => run_export(rt, matches),
         Some(CommandName::Import) => run_import(rt, matches),
+        Some(CommandName::Archive) => Err(CommandFault::BadOption),
         None => Err(CommandFault::BadOption),
     }
 }
