@@ -7,6 +7,7 @@ mod databases;
 mod files;
 mod old_databases;
 mod once_runs;
+mod operated;
 mod request_parts;
 mod served;
 mod servers;
@@ -21,16 +22,18 @@ enum Call {
     DiskStops,
     InputEnds,
     InputLeft,
+    Operated,
     ReplyWritten,
     ServedPeers,
     ServedSocket,
     StreamEnds,
 }
 
-static CALLS: [(&str, Call); 7] = [
+static CALLS: [(&str, Call); 8] = [
     ("disk_stops", Call::DiskStops),
     ("input_ends", Call::InputEnds),
     ("input_left", Call::InputLeft),
+    ("operated", Call::Operated),
     ("reply_written", Call::ReplyWritten),
     ("served_peers", Call::ServedPeers),
     ("served_socket", Call::ServedSocket),
@@ -44,6 +47,7 @@ pub fn answer(rt: &HostRuntime, case: &Case<'_>, call: &str) -> Option<Result<St
         Call::DiskStops => stops::stops_call(case),
         Call::InputEnds => once_runs::input_call(case),
         Call::InputLeft => once_runs::left_call(case),
+        Call::Operated => operated::operated_call(case),
         Call::ReplyWritten => once_runs::written_call(case),
         Call::ServedPeers => servers::peers_call(case),
         Call::ServedSocket => servers::socket_call(rt, case),

@@ -1,9 +1,9 @@
 //! Runs a server over scripted connections and over a socket.
 use crate::served::{REPLIES, REQUESTS, hub};
-use case_peers::ScriptedPeers;
+use case_peers::{ScriptedEvent, ScriptedPeers};
 use case_values::{Case, CaseFault, truth};
 use scim_hub::Hub;
-use scim_serve::serve;
+use scim_serve::{NoOperator, serve};
 use scim_shelf::MemoryShelf;
 use scim_sockets::Sockets;
 use std::alloc::Global;
@@ -13,14 +13,14 @@ use std::net::{Ipv4Addr, Shutdown, SocketAddr, TcpStream};
 
 /// The events of two connections, in order. Connection 0 sends [`REQUESTS`] in three pieces, and connection 1
 /// sends bytes that aren't HTTP in two pieces. Both first join.
-const HAPPENINGS: [(u64, &str); 7] = [
-    (0, ""),
-    (1, ""),
-    (0, "GET /Me HTTP/1.1\r\n\r\nGET /M"),
-    (1, "noth"),
-    (0, "e HTTP/1.1\r\n\r"),
-    (1, "ing\r\n\r\n"),
-    (0, "\n"),
+const HAPPENINGS: [ScriptedEvent<'static>; 7] = [
+    ScriptedEvent::Joins(0),
+    ScriptedEvent::Joins(1),
+    ScriptedEvent::Sends(0, "GET /Me HTTP/1.1\r\n\r\nGET /M"),
+    ScriptedEvent::Sends(1, "noth"),
+    ScriptedEvent::Sends(0, "e HTTP/1.1\r\n\r"),
+    ScriptedEvent::Sends(1, "ing\r\n\r\n"),
+    ScriptedEvent::Sends(0, "\n"),
 ];
 
 /// The reply to bytes that aren't HTTP.
@@ -34,7 +34,7 @@ fn answers_each(alloc: Global, step: usize) -> bool {
     else {
         return false;
     };
-    serve(alloc, &mut peers, &mut hub).is_ok()
+    serve(alloc, &mut peers, &mut hub, &mut NoOperator).is_ok()
         && peers.first.taken.as_slice() == REPLIES.as_bytes()
         && peers.second.taken.as_slice() == REFUSAL.as_bytes()
         && !peers.first.is_closed
@@ -52,7 +52,7 @@ fn answers_client(
     let mut client = TcpStream::connect(rt, address)?;
     client.write_all(REQUESTS.as_bytes())?;
     client.shutdown(Shutdown::Write)?;
-    if serve(rt.alloc(), sockets, hub).is_err() {
+    if serve(rt.alloc(), sockets, hub, &mut NoOperator).is_err() {
         return Ok(false);
     }
     let mut replies = Vec::new(rt.alloc());
@@ -66,7 +66,7 @@ fn answers_over_socket(rt: &HostRuntime) -> bool {
     let Some(mut hub) = hub(rt.alloc()) else {
         return false;
     };
-    match Sockets::listen(rt, rt.alloc(), 0, Some(1)) {
+    match Sockets::listen(rt, rt.alloc(), 0, None, Some(1)) {
         Ok(sockets) => {
             let mut sockets = sockets;
             matches!(answers_client(rt, &mut sockets, &mut hub), Ok(true))

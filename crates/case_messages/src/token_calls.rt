@@ -1,14 +1,15 @@
-//! The call of `scim_token`, and a function that finds the client of a step.
+//! The calls of `scim_token`, and a function that finds the client of a step.
 use case_values::{Case, CaseFault, said, shown};
 use scim_text::{Failed, NoMemory};
 use scim_token::Tokens;
 use scim_wire::Message;
 use std::alloc::Global;
 
-/// Returns the result of the case's call, or `None` if it isn't `client_of`.
+/// Returns the result of the case's call, or `None` if it isn't one of these.
 pub fn answer(case: &Case<'_>, call: &str) -> Option<Result<String, CaseFault>> {
     match call {
         "client_of" => Some(client_call(case)),
+        "first_shared" => Some(shared_call(case)),
         _ => None,
     }
 }
@@ -26,6 +27,16 @@ fn client_in(alloc: Global, file: &str, token: &[u8]) -> Result<String, CaseFaul
         Ok(tokens) => said(alloc, tokens.client_of(token).unwrap_or("none")),
         Err(Failed::Because(fault)) => shown(alloc, &fault),
         Err(Failed::NoMemory) => Err(CaseFault::NoMemory),
+    }
+}
+
+/// Returns the number of the first line of the argument `other` that has a token of the token file `tokens`, or
+/// `none`.
+fn shared_call(case: &Case<'_>) -> Result<String, CaseFault> {
+    let tokens = tokens_of(case)?;
+    match tokens.first_shared(case.text("other")?) {
+        Some(line) => shown(case.alloc, &line),
+        None => said(case.alloc, "none"),
     }
 }
 

@@ -1,12 +1,13 @@
 //! The calls of `scim_command`.
+use crate::audit_options::audit_text;
 use case_values::{Case, CaseFault, between, joined, named, said, shown};
 use clap::ArgMatches;
 use scim_audit::leaf_path;
 use scim_cell::Id;
 use scim_command::{
-    AuditOptions, CheckOptions, CommandFault, DatabaseFault, ExplainOptions, ExportOptions,
-    ImportOptions, OnceOptions, ReplayOptions, RunFault, ServeOptions, Setting, check, command,
-    once,
+    ArchiveCause, ArchiveOptions, AuditOptions, CheckOptions, CommandFault, DatabaseFault,
+    ExplainOptions, ExportOptions, ImportOptions, OnceOptions, ReplayOptions, RunFault,
+    ServeOptions, Setting, check, command, once,
 };
 use scim_samples::{BASE, POLICY, USERS};
 use scim_schema::Leaf;
@@ -86,10 +87,11 @@ enum CommandNamed {
     Audit,
     Export,
     Import,
+    Archive,
     Explain,
 }
 
-static COMMANDS: [(&str, CommandNamed); 8] = [
+static COMMANDS: [(&str, CommandNamed); 9] = [
     ("once", CommandNamed::Once),
     ("check", CommandNamed::Check),
     ("replay", CommandNamed::Replay),
@@ -97,6 +99,7 @@ static COMMANDS: [(&str, CommandNamed); 8] = [
     ("audit", CommandNamed::Audit),
     ("export", CommandNamed::Export),
     ("import", CommandNamed::Import),
+    ("archive", CommandNamed::Archive),
     ("explain", CommandNamed::Explain),
 ];
 
@@ -119,6 +122,7 @@ fn command_text(alloc: Global, name: &str, matches: &ArgMatches<'_>) -> Result<S
         CommandNamed::Audit => audit_options(alloc, matches),
         CommandNamed::Export => export_options(alloc, matches),
         CommandNamed::Import => import_options(alloc, matches),
+        CommandNamed::Archive => archive_options(alloc, matches),
         CommandNamed::Explain => explain_options(alloc, matches),
     }
 }
@@ -180,6 +184,7 @@ fn serve_options(alloc: Global, matches: &ArgMatches<'_>) -> Result<String, Case
 fn served_text(alloc: Global, options: &ServeOptions<'_>) -> Result<String, CaseFault> {
     let port = shown(alloc, &options.port)?;
     let connections = shown(alloc, &options.connections.unwrap_or(0))?;
+    let admin = admin_text(alloc, options)?;
     let words = [
         "policy ",
         options.policy,
@@ -193,20 +198,31 @@ fn served_text(alloc: Global, options: &ServeOptions<'_>) -> Result<String, Case
         options.base,
         ", connections ",
         connections.as_str(),
+        admin.as_str(),
     ];
     joined(alloc, &words)
 }
 
+/// Returns the options of `serve` for the administrator and the audit log that are given.
+fn admin_text(alloc: Global, options: &ServeOptions<'_>) -> Result<String, CaseFault> {
+    let port = match options.admin {
+        Some(admin) => between(alloc, ", admin ", &admin.port, " ")?,
+        None => said(alloc, "")?,
+    };
+    let tokens = match options.admin {
+        Some(admin) => admin.tokens,
+        None => "",
+    };
+    let log = match options.audit_log {
+        Some(path) => joined(alloc, &[", audit log ", path])?,
+        None => said(alloc, "")?,
+    };
+    joined(alloc, &[port.as_str(), tokens, log.as_str()])
+}
+
 fn audit_options(alloc: Global, matches: &ArgMatches<'_>) -> Result<String, CaseFault> {
-    match AuditOptions::of(matches) {
-        Ok(options) => {
-            let from = between(alloc, ", from ", &options.from, "")?;
-            let count = between(alloc, ", count ", &options.count, "")?;
-            joined(
-                alloc,
-                &["db ", options.database, from.as_str(), count.as_str()],
-            )
-        }
+    match AuditOptions::of(alloc, matches) {
+        Ok(options) => audit_text(alloc, &options),
         Err(fault) => line_and_status(alloc, &fault),
     }
 }
@@ -221,6 +237,13 @@ fn export_options(alloc: Global, matches: &ArgMatches<'_>) -> Result<String, Cas
 fn import_options(alloc: Global, matches: &ArgMatches<'_>) -> Result<String, CaseFault> {
     match ImportOptions::of(matches) {
         Ok(options) => joined(alloc, &["db ", options.database, ", users ", options.users]),
+        Err(fault) => line_and_status(alloc, &fault),
+    }
+}
+
+fn archive_options(alloc: Global, matches: &ArgMatches<'_>) -> Result<String, CaseFault> {
+    match ArchiveOptions::of(matches) {
+        Ok(options) => joined(alloc, &["db ", options.database, ", to ", options.archive]),
         Err(fault) => line_and_status(alloc, &fault),
     }
 }
@@ -272,8 +295,20 @@ enum FaultNamed {
     NotText,
     /// The file in the argument `path` can't be read.
     CannotRead,
+    /// The file in the argument `path` can't be written.
+    CannotWrite,
+    FilesGone,
+    StoreShut,
+    /// The database can't be archived to the path in the argument `path`, which exists.
+    ArchiveExists,
+    /// The database can't be archived to the path in the argument `path`, since a file can't be written.
+    CannotArchive,
     /// An item of the users file is invalid. Its number is the argument `item`.
     Users,
+    /// A line of the administrators' token file is invalid, or has a client's token. Its number is the argument
+    /// `line`.
+    AdminTokens,
+    SharedToken,
     InputEnded,
     InputFailed,
     Output,
@@ -286,10 +321,17 @@ enum FaultNamed {
     NotEmpty,
 }
 
-static FAULTS: [(&str, FaultNamed); 12] = [
+static FAULTS: [(&str, FaultNamed); 19] = [
     ("not_text", FaultNamed::NotText),
     ("cannot_read", FaultNamed::CannotRead),
+    ("cannot_write", FaultNamed::CannotWrite),
+    ("files_gone", FaultNamed::FilesGone),
+    ("store_shut", FaultNamed::StoreShut),
+    ("archive_exists", FaultNamed::ArchiveExists),
+    ("cannot_archive", FaultNamed::CannotArchive),
     ("users", FaultNamed::Users),
+    ("admin_tokens", FaultNamed::AdminTokens),
+    ("shared_token", FaultNamed::SharedToken),
     ("input_ended", FaultNamed::InputEnded),
     ("input_failed", FaultNamed::InputFailed),
     ("output", FaultNamed::Output),
@@ -308,7 +350,20 @@ fn fault_of(case: &Case<'_>) -> Result<CommandFault, CaseFault> {
     match fault {
         FaultNamed::NotText => Ok(CommandFault::NotText),
         FaultNamed::CannotRead => Ok(CommandFault::cannot_read(case.alloc, case.text("path")?)),
+        FaultNamed::CannotWrite => Ok(CommandFault::cannot_write(case.alloc, case.text("path")?)),
+        FaultNamed::FilesGone => Ok(CommandFault::FilesGone),
+        FaultNamed::StoreShut => Ok(CommandFault::StoreShut),
+        FaultNamed::ArchiveExists => archive_fault(case, ArchiveCause::Exists),
+        FaultNamed::CannotArchive => archive_fault(case, ArchiveCause::Files),
         FaultNamed::Users => Ok(CommandFault::Run(RunFault::Users(case.count("item")?))),
+        FaultNamed::AdminTokens => {
+            let line = case.count("line")?;
+            Ok(CommandFault::Run(RunFault::AdminTokens(line)))
+        }
+        FaultNamed::SharedToken => {
+            let line = case.count("line")?;
+            Ok(CommandFault::Run(RunFault::SharedToken(line)))
+        }
         FaultNamed::InputEnded => Ok(CommandFault::Run(RunFault::InputEnded)),
         FaultNamed::InputFailed => Ok(CommandFault::Run(RunFault::InputFailed)),
         FaultNamed::Output => Ok(CommandFault::Run(RunFault::Output)),
@@ -319,6 +374,11 @@ fn fault_of(case: &Case<'_>) -> Result<CommandFault, CaseFault> {
         FaultNamed::Unusable => Ok(of_database(DatabaseFault::Unusable)),
         FaultNamed::NotEmpty => Ok(of_database(DatabaseFault::NotEmpty)),
     }
+}
+
+fn archive_fault(case: &Case<'_>, cause: ArchiveCause) -> Result<CommandFault, CaseFault> {
+    let path = case.text("path")?;
+    Ok(CommandFault::cannot_archive(case.alloc, path, cause))
 }
 
 fn of_database(fault: DatabaseFault) -> CommandFault {

@@ -2,6 +2,7 @@
 //! connections; and the call that serves a whole stream. The users are in memory.
 #![tactic(auto)]
 
+mod audit_options;
 mod audited;
 mod command_calls;
 mod event_lines;

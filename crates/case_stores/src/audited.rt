@@ -1,9 +1,11 @@
 //! The stores over which cases answer whole requests.
 use crate::databases::opened;
 use crate::faults::StoreFault;
-use case_values::{Case, CaseFault};
-use scim_audit::AuditRow;
+use case_values::{Case, CaseFault, push_all, push_rows_after};
+use case_watchers::{RowWatcher, ToldRow};
+use scim_audit::{AuditRow, print_row};
 use scim_shelf::{CachedShelf, MemoryShelf, Shelf};
+use scim_shelf_watch::WatchedShelf;
 use scim_store::SqlShelf;
 use scim_text::push;
 use sqlite::Alter;
@@ -63,6 +65,52 @@ impl<S: Audited> Audited for CachedShelf<S> {
     fn close(self) {
         self.into_lower().close();
     }
+}
+
+impl<S: Audited> Audited for WatchedShelf<S, RowWatcher> {
+    fn rows_after(&mut self, alloc: Global, known: u64) -> Result<Vec<AuditRow>, StoreFault> {
+        let rows = self.lower_mut().rows_after(alloc, known)?;
+        if are_told(alloc, self.watcher().rows(), known, rows.as_slice())? {
+            Ok(rows)
+        } else {
+            Err(StoreFault::NotTold)
+        }
+    }
+
+    fn reopened(self, case: &Case<'_>) -> Result<WatchedShelf<S, RowWatcher>, StoreFault> {
+        let rows = self.rows();
+        Ok(watched(case.alloc, self.into_lower().reopened(case)?, rows))
+    }
+
+    fn close(self) {
+        self.into_lower().close();
+    }
+}
+
+/// Returns the store, which has this number of audit rows, with a watcher that keeps the rows that are
+/// committed from now on.
+pub fn watched<S: Audited>(alloc: Global, shelf: S, rows: u64) -> WatchedShelf<S, RowWatcher> {
+    WatchedShelf::over(shelf, RowWatcher::new(alloc), rows)
+}
+
+/// Whether a watcher was told of these rows, which come after the first `known` rows, and of no other rows
+/// after them.
+fn are_told(
+    alloc: Global,
+    told: &[ToldRow],
+    known: u64,
+    rows: &[AuditRow],
+) -> Result<bool, CaseFault> {
+    let mut expected = String::new(alloc);
+    push_rows_after(alloc, known, rows, &mut expected)?;
+    let mut text = String::new(alloc);
+    for told in told {
+        if told.number > known {
+            let line = print_row(alloc, told.number, &told.row)?;
+            push_all(&mut text, &[line.as_str(), ";"])?;
+        }
+    }
+    Ok(text == expected)
 }
 
 /// Returns the store with a cache that contains all its resources. If the store can't be read, closes it and

@@ -1,14 +1,18 @@
 //! The calls of `scim_command_database`, over a database in memory.
 ghost use Rattle.std.specs.Prelude.{◌≡◌, false};
 
+use crate::audit_listings::{listing, since};
 use crate::database_calls::prepared;
 use crate::databases::{OverDatabase, opened, over_new_database};
 use crate::faults::{StoreFault, told_or_fault};
 use case_policies::policy;
 use case_values::{Case, CaseFault, joined, said, shown, written_text};
+use scim_audit_listing::Listing;
 use scim_cell::Id;
 use scim_command::{CommandFault, ExportOptions};
-use scim_command_database::{DatabaseWork, Question, explain, export, import, print_audit};
+use scim_command_database::{
+    DatabaseWork, Question, archive_databases, explain, export, import, print_audit,
+};
 use scim_policy::Policy;
 use scim_samples::{BASE, USERS};
 use scim_store::SqlShelf;
@@ -18,12 +22,14 @@ use std::alloc::Global;
 /// A command over a database.
 #[derive(Clone, Copy)]
 pub enum DatabaseCommand {
-    /// Prints at most `count` rows of the audit, starting with the row numbered `from`.
+    /// Prints the rows of the audit that [`listing`] asks for.
     Audit,
     /// Exports the users file of the database.
     Export,
     /// Imports the text `file` and exports the users file of the database.
     Import,
+    /// Archives the database.
+    Archive,
     /// Explains the decision of the policy on the arguments `client`, `op`, `kind`, `id` and `leaf`, or the
     /// decisions on all leaves if `leaf` isn't given.
     Explain,
@@ -47,6 +53,7 @@ impl OverDatabase for DatabaseCommand {
             DatabaseCommand::Import => imported(case, connection),
             DatabaseCommand::Audit => audited(case, connection),
             DatabaseCommand::Export => exported(case, connection),
+            DatabaseCommand::Archive => archived(case, connection),
             DatabaseCommand::Explain => explained(case, connection),
             DatabaseCommand::Ending => ending(case, connection),
         }
@@ -70,10 +77,19 @@ fn audit_text<S: Alter + Drop>(
     case: &Case<'_>,
     shelf: &mut SqlShelf<S>,
 ) -> Result<String, StoreFault> {
-    let from = case.count("from").unwrap_or(1) as u64;
-    let count = case.count("count").unwrap_or(100) as u64;
+    match since(case) {
+        Ok(since) => listed(case, shelf, &listing(case, since)),
+        Err(fault) => Err(StoreFault::Case(fault)),
+    }
+}
+
+fn listed<S: Alter + Drop>(
+    case: &Case<'_>,
+    shelf: &mut SqlShelf<S>,
+    listing: &Listing<'_>,
+) -> Result<String, StoreFault> {
     let mut written = Vec::new(case.alloc);
-    let done = print_audit(case.alloc, shelf, from, count, &mut written);
+    let done = print_audit(case.alloc, shelf, listing, &mut written);
     Ok(written_text(case.alloc, written.as_slice(), done)?)
 }
 
@@ -135,6 +151,78 @@ fn imported<S: Alter + Drop>(
         Ok(()) => exported(case, connection),
         Err(fault) => Ok(shown(case.alloc, &fault)?),
     }
+}
+
+/// Archives a database, as [`archived_into`] tells it, with a new database in memory.
+fn archived<S: Alter + Drop>(
+    case: &Case<'_>,
+    connection: Connection<S>,
+) -> Result<String, StoreFault>
+    requires { connection.in_transaction ≡ false }
+{
+    match Connection::open_in_memory(case.alloc) {
+        Ok(new) => archived_into(case, connection, new),
+        Err(_) => Err(StoreFault::Case(CaseFault::NoMemory)),
+    }
+}
+
+/// Imports the resources of a store into a new database. Returns the users file and the audit of the new store, a
+/// line that says whether the old store has the same resources, and the audit of the old store; or the text of the
+/// error.
+fn archived_into<S: Alter + Drop, T: Alter + Drop>(
+    case: &Case<'_>,
+    old: Connection<S>,
+    new: Connection<T>,
+) -> Result<String, StoreFault>
+    requires old { old.in_transaction ≡ false }
+    requires new { new.in_transaction ≡ false }
+{
+    let (done, old, new) = archive_databases(case.alloc, old, new);
+    match done {
+        Ok(()) => {
+            let (users, audit) = stored(case, new)?;
+            let (kept, rows) = stored(case, old)?;
+            Ok(archive_text(
+                case.alloc,
+                users.as_str(),
+                audit.as_str(),
+                users == kept,
+                rows.as_str(),
+            )?)
+        }
+        Err(fault) => Ok(shown(case.alloc, &fault)?),
+    }
+}
+
+/// Returns the users file and the audit of an archive, a line that says whether the database has the same resources,
+/// and the audit of the database.
+fn archive_text(
+    alloc: Global,
+    users: &str,
+    audit: &str,
+    is_same: bool,
+    rows: &str,
+) -> Result<String, CaseFault> {
+    let line = if is_same {
+        "archive: the same resources\n"
+    } else {
+        "archive: other resources\n"
+    };
+    joined(alloc, &[users, audit, line, rows])
+}
+
+/// Returns the users file and the audit of a store, and closes the store.
+fn stored<S: Alter + Drop>(
+    case: &Case<'_>,
+    connection: Connection<S>,
+) -> Result<(String, String), StoreFault>
+    requires { connection.in_transaction ≡ false }
+{
+    let mut shelf = opened(case, connection)?;
+    let users = export_text(case, &mut shelf);
+    let audit = audit_text(case, &mut shelf);
+    let _connection = shelf.into_connection();
+    Ok((users?, audit?))
 }
 
 /// Returns the explanation of a decision on a resource in the store of a database.

@@ -21,6 +21,9 @@ pub enum StoreFault {
     /// The store can't be read.
     #[error("the store can't be read")]
     NotRead,
+    /// A watcher of the store was told something else than what was committed.
+    #[error("the watcher was told other rows")]
+    NotTold,
 }
 
 impl From<CaseFault> for StoreFault {

@@ -1,5 +1,6 @@
-//! Answers the steps of a case over stores in memory, in a database, and in a database with a cache.
-use crate::audited::{Audited, cached};
+//! Answers the steps of a case over stores in memory, in a database, and in a database with a cache, of whose
+//! commits a watcher is told.
+use crate::audited::{Audited, cached, watched};
 use crate::databases::{OverDatabase, filled, over_new_database, shelf_of};
 use crate::exchanges::push_replies;
 use crate::faults::{StoreFault, told_or_fault};
@@ -85,7 +86,8 @@ impl OverDatabase for Asked<'_> {
         let shelf = filled(case, self.store.users, connection)?;
         let mut text = String::new(case.alloc);
         if self.is_cached {
-            push_steps(case, self, cached(case.alloc, shelf)?, &mut text)?;
+            let shelf = watched(case.alloc, cached(case.alloc, shelf)?, 0);
+            push_steps(case, self, shelf, &mut text)?;
         } else {
             push_steps(case, self, shelf, &mut text)?;
         }

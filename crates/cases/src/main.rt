@@ -54,10 +54,19 @@ fn call_of<'c>(case: &'c Case<'_>) -> Result<&'c str, CaseFault> {
     case.call()
 }
 
+/// Returns the outputs of a case of events, or of one with turns of a server and its administrator.
+fn outputs_of(case: &Case<'_>) -> Result<String, CaseFault> {
+    if case.has("turns") {
+        case_admin::answered(case)
+    } else {
+        case_replays::answered(case)
+    }
+}
+
 impl Calls for AllCalls<'_> {
     fn answer(&self, case: &Case<'_>) -> Result<String, CaseFault> {
         if case.has("outputs") {
-            return case_replays::answered(case);
+            return outputs_of(case);
         }
         let call = call_of(case)?;
         if let Some(found) = case_values::answer(case, call) {

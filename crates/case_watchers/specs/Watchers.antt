@@ -1,0 +1,21 @@
+-- What a watcher that keeps rows was told.
+use Rattle.std.specs.Prelude.{◌≡◌, List, [], ◌++◌, ◌∷◌, map}
+use Rattle.scim_shelf_watch.specs.Watched.{NumberedRow, numbered_row}
+use Rattle.case_watchers.specs.declared.row_watcher.ToldRow.{ToldRow}
+use Rattle.case_watchers.specs.declared.row_watcher.RowWatcher.{RowWatcher}
+
+-- The row and its number.
+abbrev pub told_row : ToldRow → NumberedRow
+told_row told = numbered_row told.number told.row
+
+-- The rows that the watcher keeps.
+abbrev pub rows_of : RowWatcher → List NumberedRow
+rows_of watcher = map told_row watcher.rows.items
+
+-- The watcher keeps the rows that were committed.
+abbrev pub HasTold : RowWatcher → List NumberedRow → Type 0
+HasTold watcher rows = rows_of watcher ≡ rows
+
+-- The watcher keeps the rows that were committed, and behind them the row of the commit that has begun.
+abbrev pub HasBegun : RowWatcher → List NumberedRow → NumberedRow → Type 0
+HasBegun watcher rows row = rows_of watcher ≡ rows ++ row ∷ []
