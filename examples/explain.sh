@@ -21,6 +21,6 @@ explain --client mail --op read --id "$bob" --path title
 echo "Why mover isn't shown Alice's title: she isn't at the desk"
 explain --client mover --op read --id "$alice" --path title
 echo "All that mover may change of Alice"
-explain --client mover --op modify --id "$alice" | grep allow
+explain --client mover --op modify --id "$alice" | grep 'allow$'
 echo "There is no such user"
 explain --client mail --op read --id 00000000-0000-4000-8000-00000000000d --path title

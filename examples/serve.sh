@@ -10,7 +10,7 @@ server=
 trap '[ -z "$server" ] || kill "$server" 2> /dev/null; rm -r "$folder"' EXIT
 cd "$folder"
 "$scimd" import --db store.db --users "$examples/users.json"
-"$scimd" serve --policy "$examples/policy.json" --tokens "$examples/tokens" --db store.db --port 0 > told &
+"$scimd" serve --policy "$examples/policy.json" --tokens "$examples/tokens" --db store.db --port 0 > told 2> log &
 server=$!
 until grep -q listening told; do sleep 0.1; done
 cat told
