@@ -58,7 +58,8 @@ impl Texts {
 
     /// Returns what the files say. Fails with the fault of the first one that isn't valid.
     pub(crate) fn read(&self, alloc: Global) -> Result<Files, RunFault>
-        ensures known { IfOk result (λ files. KnowsSome files.tokens × KnowsSome files.admin_tokens) }
+        ensures known { IfOk result (λ files.
+            KnowsSome files.tokens × KnowsSome files.admin_tokens) }
     {
         let policy = read_policy(alloc, self.policy.as_str())?;
         let tokens = read_tokens(alloc, self.tokens.as_str())?;

@@ -1,5 +1,5 @@
 -- The endpoints of the administrator's port, their paths and methods.
-use Rattle.std.specs.Prelude.{ℕ, Bool, List, [], ◌∷◌, Option, codes, find, bytes_eq}
+use Rattle.std.specs.Prelude.{ℕ, List, [], ◌∷◌, Option, codes, find, bytes_eq}
 use Rattle.scim_admin_text.specs.declared.endpoints.Endpoint.{Endpoint}
 use Rattle.scim_admin_text.specs.declared.endpoints.Endpoint.TheVariants.{Health, Metrics, Audit, Explain, Export, Reload, Stop}
 

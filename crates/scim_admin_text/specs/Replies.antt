@@ -1,5 +1,5 @@
 -- The texts of replies to the administrator (RFC 9112 sections 4 and 7.1).
-use Rattle.std.specs.Prelude.{ℕ, Bool, List, [], ◌∷◌, ◌++◌, length, codes, if◌then◌else◌, ◌==◌, false}
+use Rattle.std.specs.Prelude.{ℕ, List, [], ◌++◌, length, codes, if◌then◌else◌, ◌==◌, false}
 use Rattle.std.specs.Option.{option_copied}
 use Rattle.std.specs.Fmt.{decimal, digits}
 use Rattle.scim_wire.specs.Replies.{crlf, line, option_line, optional_line}

@@ -1,8 +1,7 @@
 -- What a message of the administrator asks.
-use Rattle.std.specs.Prelude.{◌≡◌, ◌≢◌, ◌≤◌, ℕ, ◌^◌, ◌<◌, Bool, List, [], ◌∷◌, ◌++◌, length, drop, codes, Option, None, Some, MatchOption, IfSome, IsSome, ◌==◌, bytes_eq, if◌then◌else◌}
+use Rattle.std.specs.Prelude.{◌≡◌, ◌≢◌, ℕ, ◌^◌, ◌<◌, Bool, List, codes, Option, None, Some, MatchOption, IfSome, ◌==◌, bytes_eq, if◌then◌else◌}
 use Rattle.std.specs.List.{before_first, after_first}
 use Rattle.std.specs.Str.Parse.{IsNumeral, digits_value}
-use Rattle.std.specs.Fmt.{decimal}
 use Rattle.scim_text.specs.Moments.{moment_of}
 use Rattle.scim_cell.specs.Ids.{IsId, id_text}
 use Rattle.scim_schema.specs.Lookup.{operation_named, kind_named}

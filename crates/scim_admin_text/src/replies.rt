@@ -116,7 +116,8 @@ fn add_if(text: &mut String, due: bool, name: &str, value: &str) -> Result<(), N
 
 /// Appends the header line that frames the body, if there is one.
 fn add_framing(alloc: Global, text: &mut String, body: Body) -> Result<(), NoMemory>
-    ensures { OnOk result (string_bytes text.new ≡ string_bytes text.old ++ spec.framing_line body) }
+    ensures { OnOk result (string_bytes text.new
+        ≡ string_bytes text.old ++ spec.framing_line body) }
 {
     match body {
         Body::Length(length) => {

@@ -93,7 +93,8 @@ fn number_in(text: &str) -> Option<u64>
 /// Returns the number in the parameter; `None` if there is no such parameter. Fails with `BadValue` if the
 /// value isn't a number of at most 64 bits in decimal digits.
 fn number(parameters: &Parameters, parameter: Parameter) -> Result<Option<u64>, AdminRefusal>
-    ensures ok { IfOk result (spec.MayHaveNumber (parameter_pairs parameters.now) (name_of parameter)) }
+    ensures ok { IfOk result
+        (spec.MayHaveNumber (parameter_pairs parameters.now) (name_of parameter)) }
     ensures fault { IfErr result (λ f. f ≡ AdminRefusal.BadValue parameter) }
 {
     let Some(text) = parameters.value(parameter.name()) else {

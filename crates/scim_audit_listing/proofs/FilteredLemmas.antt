@@ -1,14 +1,14 @@
 -- Parts of the rows that fit.
-use Rattle.std.proofs.Common.{◌≡◌, ℕ, zero, suc, ◌+◌, ◌-◌, ◌<◌, ◌≤◌, min, List, [], ◌∷◌, ◌++◌, length, get_or, take, drop, refl, sym, ap, ◌∙◌, arith, Bool, true, false, length-append}
+use Rattle.std.proofs.Common.{◌≡◌, ℕ, zero, suc, ◌+◌, ◌-◌, ◌<◌, ◌≤◌, List, [], ◌∷◌, ◌++◌, length, get_or, take, drop, refl, sym, ap, ◌∙◌, arith, Bool, true, false, length-append}
 use Rattle.std.specs.Prelude.{if◌then◌else◌}
-use Rattle.std.proofs.lemmas.List.{drop_more, take-append-le}
+use Rattle.std.proofs.lemmas.List.{drop_more}
 use Rattle.std.proofs.Math.Seq.{drop-append_seam, take-append-add}
 use Rattle.std.proofs.lemmas.Grind.{flat_map-append}
 use Rattle.scim_audit.specs.declared.audit_rows.AuditRow.{AuditRow}
 use Rattle.scim_audit_listing.specs.declared.filters.AuditFilter.{AuditFilter}
 use Rattle.scim_audit_listing.specs.declared.listings.LineFormat.{LineFormat}
 use Rattle.scim_audit_listing.specs.Filters.{fits}
-use Rattle.scim_audit_listing.specs.Listings.{Numbered, fitting_rows, line_text, lines, take_last}
+use Rattle.scim_audit_listing.specs.Listings.{Numbered, fitting_rows, lines, take_last}
 
 -- an element in front of a list of two parts, where a test passes
 by_fit : {X : Type 0} (b : Bool) (x : X) (all front back : List X) → all ≡ front ++ back → (if b then x ∷ all else all) ≡ (if b then x ∷ front else front) ++ back

@@ -1,6 +1,6 @@
 -- Texts without a mark at their start.
-use Rattle.std.proofs.Common.{◌≡◌, ◌≢◌, refl, sym, ap, ◌∙◌, ℕ, ◌==◌, List, [], ◌∷◌, Bor, true, false, Bool}
-use Rattle.std.specs.Prelude.{Option, None, Some, MatchOption, unwrap_or, ◌||◌, if◌then◌else◌}
+use Rattle.std.proofs.Common.{◌≡◌, ◌≢◌, refl, sym, ap, ℕ, ◌==◌, List, [], ◌∷◌, Bor, true, false, Bool}
+use Rattle.std.specs.Prelude.{Option, None, Some, MatchOption, unwrap_or}
 use Rattle.std.proofs.lemmas.Bool.{eqb-true}
 use Rattle.scim_audit_listing.specs.RefusalNames.{without_mark}
 
@@ -19,7 +19,7 @@ unmarked (b ∷ rest) large small =
     (λ is. absurd (small rest (ap (λ (x : ℕ). x ∷ rest) (eqb-true b 102 is))))
     (λ not_small. rw (not_large, not_small) refl))
 
--- what is left without an `f`, of a text without an `F`
+-- a text that doesn't begin with `F`, after an `f` at its start, if any, is removed, has no mark
 pub stripped : (text : Bor (List ℕ)) (r : Option (Bor (List ℕ))) → ((rest : List ℕ) → text.now ≢ 70 ∷ rest)
     → MatchOption r ((rest : List ℕ) → text.now ≢ 102 ∷ rest) (λ x. text.now ≡ 102 ∷ x.now)
     → (unwrap_or r text).now ≡ without_mark text.now

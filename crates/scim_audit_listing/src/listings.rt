@@ -113,7 +113,8 @@ pub fn add_lines(
 /// index is 0 if fewer rows fit.
 pub fn start_of_last(filter: &AuditFilter<'_>, rows: &[AuditRow], wanted: u64) -> (usize, u64)
     ensures within { result.0 ≤ length rows.now }
-    ensures start { (first : ℕ) → spec.fitting_rows filter.now (first + result.0) (drop result.0 rows.now)
+    ensures start { (first : ℕ)
+        → spec.fitting_rows filter.now (first + result.0) (drop result.0 rows.now)
         ≡ spec.take_last wanted (spec.fitting_rows filter.now first rows.now) }
     ensures count { (first : ℕ)
         → result.1 ≡ min wanted (length (spec.fitting_rows filter.now first rows.now)) }

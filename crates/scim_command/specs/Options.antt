@@ -1,5 +1,5 @@
 -- The options of the commands: the values that the command line has for them, or their defaults.
-use Rattle.std.specs.Prelude.{◌≡◌, ℕ, Bool, true, false, not, List, Option, None, Some, option_and_then, option_map, codes, MatchOption, if◌then◌else◌}
+use Rattle.std.specs.Prelude.{◌≡◌, ℕ, Bool, true, false, not, List, Option, None, Some, option_and_then, codes, MatchOption, if◌then◌else◌}
 use Rattle.std.specs.Option.{option_copied}
 use Rattle.clap.specs.Words.{first_value, found_of, one_text}
 use Rattle.clap.specs.declared.parser.matches.ArgMatches.{ArgMatches}

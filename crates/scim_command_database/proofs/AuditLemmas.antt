@@ -1,12 +1,12 @@
 -- Rows of the audit that the tables can't tell apart have one line, and fit the same conditions.
-use Rattle.std.proofs.Common.{◌≡◌, ℕ, zero, suc, ◌+◌, ◌-◌, ◌<◌, ◌≤◌, max, min, List, [], ◌∷◌, ◌++◌, append_assoc, take, drop, length, refl, sym, ap, ◌∙◌, arith, Option, None, Some, Bool, true, false, length-take, length-drop, length-append}
+use Rattle.std.proofs.Common.{◌≡◌, ℕ, zero, suc, ◌+◌, ◌-◌, ◌≤◌, max, min, List, [], ◌∷◌, ◌++◌, append_assoc, take, drop, length, refl, sym, ap, ◌∙◌, arith, Option, None, Some, Bool, true, false, length-take, length-append}
 use Rattle.std.specs.Prelude.{◌==◌, ◌&&◌, codes, decimal, get_or, option_map, unwrap_or, if◌then◌else◌}
 use Rattle.std.specs.List.{join_with_byte}
 use Rattle.std.specs.Option.{option_copied}
 use Rattle.std.proofs.lemmas.List.{drop-drop, drop-take}
 use Rattle.sqlite.specs.declared.types.Value.TheVariants.{Text}
 use Rattle.sqlite.specs.Values.{or_null}
-use Rattle.serde_json.specs.Data.{Data, number as number_value, unsigned, string, object, Members, no_members, member}
+use Rattle.serde_json.specs.Data.{number as number_value, string, object, no_members, member}
 use Rattle.serde_json.specs.Written.{compact_text}
 use Rattle.scim_schema.specs.declared.Kind.{Kind}
 use Rattle.scim_schema.specs.declared.Kind.TheVariants.{User, Group}

@@ -1,5 +1,5 @@
 -- What a crash leaves after reads of a store, one after another.
-use Rattle.std.proofs.Common.{◌≡◌, refl, ◌∙◌, inl, arith}
+use Rattle.std.proofs.Common.{◌≡◌, ◌∙◌, arith}
 use Rattle.sqlite.specs.State.{State, HasCleanDisk}
 use Rattle.sqlite.proofs.StateLemmas.{survives_then}
 use Rattle.scim_shelf.specs.Stores.{Store}

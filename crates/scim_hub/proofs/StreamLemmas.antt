@@ -1,6 +1,6 @@
 -- Turns that follow each other.
 use Rattle.std.proofs.Common.{◌≡◌, ◌∙◌, refl, sym, ap, subst, inl, inr, ℕ, ◌+◌, ◌-◌, ◌^◌, min, Bool, true, false, List, [], ◌∷◌, ◌++◌, map, take, drop, append_assoc, arith}
-use Rattle.std.specs.Prelude.{◌≢◌, ◌≤◌, ◌<◌, ◌||◌, Option, None, Some, Result, Ok, Err, All, IsOk, MatchResult, length, count_by, cond}
+use Rattle.std.specs.Prelude.{◌≢◌, ◌≤◌, ◌||◌, Option, None, Some, Result, Ok, Err, All, MatchResult, length, count_by, cond}
 use Rattle.std.specs.List.{FoldsTo, fold, flat_map, list_any}
 use Rattle.std.specs.Io.KnownBytes.{Appends, Consumes, Keeps, IsAtEnd}
 use Rattle.std.proofs.KnownBytes.{Appends-nil, Appends-trans, Consumes-kept, Consumes-trans}
@@ -20,7 +20,7 @@ use Rattle.scim_hub.specs.code.Servings.{IsToldOf, IsFaultOf, IsPieceServed}
 use Rattle.scim_hub.specs.declared.io_faults.IoFault.{IoFault}
 use Rattle.scim_hub.specs.declared.io_faults.IoFault.TheVariants.{Read, Write, Turns, Stamp as NoStamp, Hub}
 use Rattle.scim_hub.specs.Events.{HubEvent, HubState, HubOutput, Hears}
-use Rattle.scim_hub.specs.Streams.{Grows, AnsweredEvent, bytes_in, bytes_of, text_done, text_of, replies_done, replies_of, shuts, is_reply, is_shutting, text_in, IsPiece, IsPieceOf, IsWrittenAt, IsWritten, IsLostAt, AreBytesOf, most_reads, StaysOpen, AreReadOn, EndWith, EndAt, EndWell, AreServed, IsStreamServed}
+use Rattle.scim_hub.specs.Streams.{Grows, AnsweredEvent, bytes_in, bytes_of, text_done, text_of, replies_of, is_reply, is_shutting, text_in, IsPiece, IsPieceOf, IsWrittenAt, IsWritten, IsLostAt, AreBytesOf, most_reads, StaysOpen, AreReadOn, EndAt, EndWell, AreServed, IsStreamServed}
 
 pub folds_on : {P A : Type 0} (R : P → A → P → Type 0) (p : P) (xs ys : List A) (m q : P) → FoldsTo R p xs m → FoldsTo R m ys q → FoldsTo R p (xs ++ ys) q
 folds_on {P} {A} R p [] ys m q before after = subst (λ (x : P). FoldsTo R x ys q) (sym before) after

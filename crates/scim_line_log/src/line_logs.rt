@@ -36,7 +36,8 @@ impl<W: Write> LineLog<W> {
     /// doesn't take the rest of the last line, or if memory runs out. An accepted line that the writer doesn't
     /// take whole is kept until the next call.
     pub fn append(&mut self, line: &str) -> bool
-        ensures accepted { IsTrue result → Takes W.contents (line.now ++ 10 ∷ []) self.old self.new }
+        ensures accepted { IsTrue result
+            → Takes W.contents (line.now ++ 10 ∷ []) self.old self.new }
         ensures lost { IsFalse result → Takes W.contents [] self.old self.new }
     {
         if !self.write_rest() {
@@ -64,7 +65,7 @@ impl<W: Write> LineLog<W> {
         Ok(())
     }
 
-    /// Writes what is left of the last line, and returns whether nothing is left.
+    /// Writes the rest of the last line, and returns whether all of it was written.
     fn write_rest(&mut self) -> bool
         ensures takes { Takes W.contents [] self.old self.new }
         ensures whole { IsTrue result → rest_of self.new ≡ [] }

@@ -1,11 +1,9 @@
 -- A run through events and reloads, as runs of its parts.
-use Rattle.std.proofs.Common.{◌≡◌, ◌∙◌, refl, sym, ap, subst, ℕ, List, [], ◌∷◌, ◌++◌}
+use Rattle.std.proofs.Common.{◌∙◌, refl, ap, List, [], ◌∷◌}
 use Rattle.std.specs.Prelude.{Result}
-use Rattle.scim_policy.specs.Rules.{Rule}
-use Rattle.scim_token.specs.TokenFile.{Entry}
 use Rattle.scim_hub.specs.declared.events.HubFault.{HubFault}
-use Rattle.scim_hub.specs.Events.{HubState, HubOutput}
-use Rattle.scim_serve.specs.Occurrences.{Occurrence, hears, reloads, heard, reloaded, RunsThrough, RunsWithoutReload, RunsInParts}
+use Rattle.scim_hub.specs.Events.{HubOutput}
+use Rattle.scim_serve.specs.Occurrences.{hears, reloads, heard, RunsWithoutReload, RunsInParts}
 
 -- without a reload there is one run
 pub runs_without_reload : RunsWithoutReload

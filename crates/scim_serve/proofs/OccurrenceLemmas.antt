@@ -1,5 +1,5 @@
 -- What occurs, with one more occurrence.
-use Rattle.std.proofs.Common.{◌≡◌, refl, sym, ap, subst, ℕ, List, [], ◌∷◌, ◌++◌}
+use Rattle.std.proofs.Common.{◌≡◌, refl, ap, subst, ℕ, List, [], ◌∷◌, ◌++◌}
 use Rattle.std.specs.Prelude.{Result}
 use Rattle.scim_policy.specs.Rules.{Rule}
 use Rattle.scim_token.specs.TokenFile.{Entry}

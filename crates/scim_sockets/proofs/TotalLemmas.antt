@@ -4,8 +4,8 @@ use Rattle.std.specs.Prelude.{Option}
 use Rattle.std.specs.List.{All, sum_by, list_any}
 use Rattle.std.specs.Option.{option_map, unwrap_or, IfSome}
 use Rattle.std.specs.Ordering.{nat_cmp}
-use Rattle.std.specs.Map.{lookup, set_value, remove_entry, values_of}
-use Rattle.std.specs.BTreeMap.{BTreeMap, btree_map_len, get, get_by, is_at, values, insert_entry, IsOrdered, UpdatesBy, WritesThrough}
+use Rattle.std.specs.Map.{lookup, remove_entry, values_of}
+use Rattle.std.specs.BTreeMap.{BTreeMap, btree_map_len, get, get_by, is_at, insert_entry, IsOrdered, UpdatesBy, WritesThrough}
 use Rattle.std.proofs.lemmas.Cmp.{nat_cmp_total}
 use Rattle.std.proofs.lemmas.List.{length-map}
 use Rattle.std.proofs.lemmas.List.Sums.{sum_by-le}

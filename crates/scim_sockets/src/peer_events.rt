@@ -12,7 +12,8 @@ use std::time::Clock;
 
 /// Returns an event of a client's connection.
 fn of_client(connection: u64, stamp: Stamp, kind: OwnedEventKind) -> PeerEvent
-    ensures { result ≡ PeerEvent.Event (record { connection = connection; stamp = stamp; kind = kind }) }
+    ensures { result
+        ≡ PeerEvent.Event (record { connection = connection; stamp = stamp; kind = kind }) }
 {
     PeerEvent::Event(OwnedEvent {
         connection,

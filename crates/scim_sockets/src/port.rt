@@ -110,7 +110,8 @@ impl Port {
 
     /// Whether the maximum number of connections is open.
     fn is_full(&self) -> bool
-        ensures { IsTrue result ↔ (self.now.room ≤ btree_map_len self.now.turns.connections.by_number) }
+        ensures { IsTrue result
+            ↔ (self.now.room ≤ btree_map_len self.now.turns.connections.by_number) }
     {
         self.turns.open() >= self.room
     }

@@ -1,4 +1,4 @@
-use Rattle.std.proofs.Common.{◌≡◌, ◌++◌, ◌∷◌, [], ◌∙◌, rules, append_assoc, ap, sym}
+use Rattle.std.proofs.Common.{rules}
 use Rattle.std.proofs.lemmas.Result.{on_ok_weaker}
 use Rattle.scim_audit_listing.specs.JsonRows.{row_data}
 use Rattle.scim_audit_listing.proofs.JsonLemmas.{added}

@@ -1,4 +1,4 @@
-use Rattle.std.proofs.Common.{◌≡◌, ℕ, ◌+◌, ◌-◌, ◌≤◌, ◌++◌, ◌∙◌, sym, ap, arith, min, length, drop, [], ◌∷◌, append_assoc, length-append, string_bytes, take, List}
+use Rattle.std.proofs.Common.{◌≡◌, ℕ, ◌+◌, ◌-◌, ◌≤◌, ◌++◌, ◌∙◌, sym, ap, arith, length, drop, [], ◌∷◌, append_assoc, length-append, string_bytes, take, List}
 use Rattle.scim_audit_listing.specs.Listings.{Numbered, fitting_rows, lines}
 use Rattle.scim_audit_listing.proofs.FilteredLemmas.{fitting_from, lines_parts}
 use Rattle.scim_audit_listing.proofs.listings.add_lines.Goals as goal

@@ -1,6 +1,6 @@
-use Rattle.std.proofs.Common.{◌≡◌, ◌<◌, ℕ, ◌+◌, ◌-◌, ◌∙◌, sym, ap, arith, true, false, min, length, drop, subst}
-use Rattle.scim_audit_listing.specs.Listings.{fitting_rows, take_last}
-use Rattle.scim_audit_listing.proofs.FilteredLemmas.{counted, few_from, last_all, last_from}
+use Rattle.std.proofs.Common.{◌≡◌, ◌<◌, ℕ, ◌+◌, ◌-◌, ◌∙◌, sym, ap, arith, true, false, length, drop, subst}
+use Rattle.scim_audit_listing.specs.Listings.{fitting_rows}
+use Rattle.scim_audit_listing.proofs.FilteredLemmas.{counted, few_from, last_from}
 use Rattle.scim_audit_listing.proofs.listings.start_of_last.Goals as goal
 
 pub returns-then-found-wanted-clause-start : goal.returns-then-found-wanted-clause-start

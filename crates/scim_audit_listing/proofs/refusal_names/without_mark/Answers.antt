@@ -1,4 +1,4 @@
-use Rattle.std.proofs.Common.{◌∙◌, ap, sym, arith, None}
+use Rattle.std.proofs.Common.{◌∙◌, ap, arith, None}
 use Rattle.std.proofs.lemmas.Str.Pattern.{strip_prefix_char}
 use Rattle.scim_audit_listing.proofs.MarkLemmas.{stripped}
 use Rattle.scim_audit_listing.proofs.refusal_names.without_mark.Goals as goal

@@ -1,7 +1,6 @@
-use Rattle.std.proofs.Common.{◌≡◌, ◌≤◌, ℕ, ◌+◌, ◌∙◌, List, length, sym, ap, arith, string_bytes, take}
+use Rattle.std.proofs.Common.{◌∙◌, ap, arith, string_bytes, take}
 use Rattle.sqlite.specs.Effect.{Database}
 use Rattle.sqlite.specs.Held.{state}
-use Rattle.sqlite.specs.State.{HasCleanDisk}
 use Rattle.scim_audit_listing.specs.Listings.{fitting, lines}
 use Rattle.scim_shelf.specs.Stores.{Store}
 use Rattle.scim_store.specs.Shelves.{IsKeptIn}

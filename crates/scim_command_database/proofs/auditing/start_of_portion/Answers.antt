@@ -1,8 +1,7 @@
-use Rattle.std.proofs.Common.{◌≡◌, ◌≤◌, ◌<◌, ℕ, ◌+◌, ◌-◌, ◌∙◌, List, length, max, sym, ap, arith}
+use Rattle.std.proofs.Common.{◌≡◌, ◌≤◌, ℕ, ◌+◌, ◌-◌, ◌∙◌, length, max, ap, arith}
 use Rattle.sqlite.specs.Effect.{Database}
 use Rattle.sqlite.specs.Held.{state}
-use Rattle.sqlite.specs.State.{HasCleanDisk}
-use Rattle.scim_audit_listing.specs.Listings.{fitting, fitting_rows}
+use Rattle.scim_audit_listing.specs.Listings.{fitting}
 use Rattle.scim_shelf.specs.Stores.{Store}
 use Rattle.scim_store.specs.Shelves.{IsKeptIn}
 use Rattle.scim_store.specs.SqlShelves.{base_of, connection_of, rows_of}

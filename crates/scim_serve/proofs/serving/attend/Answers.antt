@@ -1,5 +1,4 @@
-use Rattle.std.proofs.Common.{◌≡◌, ◌∙◌, refl, sym, subst, ℕ, List, [], ◌++◌}
-use Rattle.std.specs.Prelude.{Some, Ok}
+use Rattle.std.proofs.Common.{◌∙◌, refl, sym, subst, ℕ, List}
 use Rattle.std.proofs.lemmas.List.{append-nil}
 use Rattle.scim_hub.specs.Events.{HubEvent, Hears}
 use Rattle.scim_hub.specs.HubStates.{IsHubState, owned_event_of}

@@ -1,4 +1,4 @@
-use Rattle.std.proofs.Common.{rules, ◌≡◌, ◌∙◌, refl, sym, ap, subst, ℕ, List, [], ◌++◌}
+use Rattle.std.proofs.Common.{rules, ◌≡◌, ◌∙◌, refl, sym, ap, subst, List, [], ◌++◌}
 use Rattle.std.specs.Prelude.{Option, Some, Ok}
 use Rattle.scim_hub.specs.Events.{HubEvent}
 use Rattle.scim_hub.specs.HubStates.{IsHubState}
