@@ -1,7 +1,7 @@
 #!/usr/bin/env python3
 """A full disk and a device that fails: what is answered 500 isn't done (but for a change whose sync fails, which may
-be there after a start), what was acknowledged stays, and the server goes on. The full disk is a small tmpfs, which only
-root may mount; the device fails by strace, call by call."""
+be there after a start), and what was acknowledged stays. The server goes on; after a failed sync it ends with status 1.
+The full disk is a small tmpfs, which only root may mount; the device fails by strace, call by call."""
 import argparse
 import contextlib
 import os
@@ -11,11 +11,12 @@ import sys
 import tempfile
 
 from changes import Changes, audited, exported
-from server import Server, request, write_files
+from server import SECONDS, Server, request, write_files
 
 MIB = 1_048_576
 FAILURES = ["pwrite64:error=EIO:when=200..260", "fdatasync:error=EIO:when=50..60", "pwrite64:error=ENOSPC:when=90..400",
             "ftruncate:error=EIO:when=1..2"]
+SHUT = "scimd: the database is shut after a failed write"
 
 
 def asked(changes, server, count):
@@ -75,18 +76,42 @@ def until_full(changes, server):
 
 
 def failing(program, folder, failure):
-    """A device that fails at some calls, and a start after it."""
+    """A device that fails at some calls, and a start after it. A server whose sync fails ends by itself."""
     write_files(folder)
     changes = Changes("writer", failure)
     under = ["strace", "-f", "-o", "/dev/null", "-e", f"trace={failure.split(':')[0]}", "-e", f"inject={failure}"]
+    is_sync = failure.startswith("fdatasync")
     with Server(program, folder, under=under) as server:
-        refused = asked(changes, server, 300)
-    if failure.startswith("fdatasync"):
+        refused, has_ended = asked_to_its_end(changes, server, 300)
+        if is_sync or has_ended:
+            check_end(server)
+    if is_sync:
         # The log has the change whose sync failed, and nobody knows whether the disk has it.
         changes.step = changes.first_refused
     Server(program, folder).__enter__().kill()
     checked(program, os.path.join(folder, "store.db"), changes)
     print(f"{failure}: {changes.count} requests, {refused} answered 500; nothing acknowledged is lost")
+
+
+def asked_to_its_end(changes, server, count):
+    """How many of so many requests are answered 500, and whether the server ended before the last of them."""
+    client, refused = server.connect(60), 0
+    try:
+        for _ in range(count):
+            refused += changes.ask(client) == 500
+        return refused, False
+    except ConnectionError:
+        return refused, True
+    finally:
+        client.close()
+
+
+def check_end(server):
+    """RuntimeError unless the server ends by itself, since its database is shut."""
+    status = server.process.wait(SECONDS)
+    told = server.process.stderr.read().decode(errors="replace").splitlines()
+    if status != 1 or told[-1:] != [SHUT]:
+        raise RuntimeError(f"exit status {status}: {told[-2:]}")
 
 
 def runs():

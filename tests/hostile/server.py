@@ -122,17 +122,24 @@ class Server:
 
     def launch(self):
         """Starts the program, which doesn't listen yet."""
-        self.process = subprocess.Popen(self.words, stdout=subprocess.PIPE, stderr=subprocess.PIPE)
+        self.process = subprocess.Popen(self.words, bufsize=0, stdout=subprocess.PIPE, stderr=subprocess.PIPE)
 
     def start(self):
         self.launch()
+        self.port = self.told_port("listening on")
+
+    def told_port(self, words):
+        """The port in the next line that the program prints: these words and an address."""
         ready, _, _ = select.select([self.process.stdout], [], [], SECONDS)
         line = self.process.stdout.readline().decode() if ready else ""
-        if not line.startswith("listening on 127.0.0.1:"):
+        if not line.startswith(f"{words} 127.0.0.1:"):
             self.process.kill()
-            told = self.process.communicate()[1].decode(errors="replace")
-            raise RuntimeError(f"the server doesn't listen: {line!r} {told!r}")
-        self.port = int(line.rsplit(":", 1)[1])
+            raise RuntimeError(f"the server doesn't listen: {line!r} {self.complaint()!r}")
+        return int(line.rsplit(":", 1)[1])
+
+    def complaint(self):
+        """What the program said on standard error, after its end."""
+        return self.process.communicate()[1].decode(errors="replace")
 
     def kill(self):
         if self.is_under:
@@ -141,8 +148,8 @@ class Server:
                 self.process.wait(5)  # it ends behind the server, which has the lock on the database until then
         self.process.kill()
         self.process.wait()
-        self.process.stdout.close()
-        self.process.stderr.close()
+        for stream in filter(None, (self.process.stdout, self.process.stderr)):
+            stream.close()
 
     def connect(self, seconds=None):
         return Client(self.port, seconds)
