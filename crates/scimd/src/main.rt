@@ -6,9 +6,9 @@
 mod audit_logs;
 mod database_files;
 mod databases;
-mod log_watches;
 mod servers;
 mod start_lines;
+mod system_hosts;
 
 use clap::{ArgMatches, Error};
 use databases::{run_audit, run_explain, run_export, run_import};

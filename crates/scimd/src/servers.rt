@@ -1,28 +1,30 @@
-//! The command `serve`: serves a database to many clients.
-use crate::audit_logs::open_audit_log;
+//! The command `serve`: serves a database to many clients, and to an administrator.
+use crate::audit_logs::AuditLog;
 use crate::databases::with_database;
-use crate::log_watches::LogWatch;
-use crate::start_lines::{FileCounts, log_files, log_start};
+use crate::start_lines::{FileCounts, log_files, log_ports, log_start};
+use crate::system_hosts::SystemHost;
 use clap::ArgMatches;
+use scim_admin::{Admin, AdminEnding, OpenShelf, ServerWatch};
 use scim_cell::Text;
 use scim_command::{
     CommandFault, LimitOptions, RunFault, ServeFiles, ServeOptions, serve_files_at,
 };
 use scim_command_database::{DatabaseWork, open_cached};
 use scim_hub::Hub;
-use scim_line_log::LineLog;
 use scim_route::Routes;
-use scim_serve::{NoOperator, serve};
+use scim_serve::serve;
 use scim_service::Service;
-use scim_shelf::{CachedShelf, Shelf};
+use scim_shelf::CachedShelf;
 use scim_shelf_watch::WatchedShelf;
 use scim_sockets::{Limits, Sockets};
 use scim_text::Failed;
 use sqlite::{Alter, Connection};
 use std::alloc::Global;
-use std::fs::File;
 use std::io::Write;
 use std::time::{Duration, Instant};
+
+/// A shelf over a database as a server uses it: with a cache, and watched.
+type ServedShelf<'o, T> = WatchedShelf<CachedShelf<T>, ServerWatch<SystemHost<'o>>>;
 
 /// The command `serve` with its options, the contents of the policy and token files, and the audit log.
 #[derive(Drop)]
@@ -31,7 +33,7 @@ struct Serving<'o> {
     options: ServeOptions<'o>,
     base: Text,
     files: ServeFiles,
-    audit_log: Option<LineLog<File>>,
+    audit_log: Option<AuditLog>,
     routes: Routes,
     start: Instant,
 }
@@ -52,19 +54,25 @@ impl DatabaseWork for Serving<'_> {
             routes,
             start,
         } = self;
+        let Ok(host) = SystemHost::new(rt, options, start, audit_log) else {
+            return (Err(CommandFault::Run(RunFault::NoMemory)), connection);
+        };
         match open_cached(alloc, connection, options.base, options.has_cache) {
             Ok(shelf) => {
                 let mut shelf = shelf;
                 let rows = shelf.lower_mut().audit_count();
-                let shelf = WatchedShelf::over(shelf, LogWatch::new(rt, audit_log), rows);
+                let shelf = WatchedShelf::over(shelf, ServerWatch::new(alloc, host), rows);
                 let counts = FileCounts::of(&files);
                 let ServeFiles {
                     policy,
                     tokens,
-                    admin_tokens: _admin_tokens,
+                    admin_tokens,
                 } = files;
                 let mut hub = Hub::new(alloc, routes, Service::new(policy, shelf, base), tokens);
-                let done = serve_at_port(rt, &options, counts, start, &mut hub);
+                let mut admin = Admin::new(alloc, admin_tokens);
+                log_files(rt, &options, counts);
+                log_start(rt, hub.shelf_mut(), start);
+                let done = serve_at_ports(rt, &options, &mut hub, &mut admin);
                 let shelf = hub.into_service().into_shelf().into_lower();
                 (done, shelf.into_lower().into_connection())
             }
@@ -77,9 +85,6 @@ impl DatabaseWork for Serving<'_> {
 /// the audit log is opened, before the database is opened.
 pub(crate) fn run_serve(rt: &HostRuntime, matches: &ArgMatches<'_>) -> Result<(), CommandFault> {
     let options = ServeOptions::of(matches)?;
-    if options.admin.is_some() {
-        return Err(CommandFault::BadOption);
-    }
     let Ok(base) = Text::copy_of(rt.alloc(), options.base) else {
         return Err(CommandFault::Run(RunFault::NoMemory));
     };
@@ -107,32 +112,35 @@ pub(crate) fn run_serve(rt: &HostRuntime, matches: &ArgMatches<'_>) -> Result<()
 fn audit_log_of(
     rt: &HostRuntime,
     options: &ServeOptions<'_>,
-) -> Result<Option<LineLog<File>>, CommandFault> {
+) -> Result<Option<AuditLog>, CommandFault> {
     let Some(path) = options.audit_log else {
         return Ok(None);
     };
-    match open_audit_log(rt, path) {
+    match AuditLog::open(rt, path) {
         Ok(log) => Ok(Some(log)),
         Err(_) => Err(CommandFault::cannot_write(rt.alloc(), path)),
     }
 }
 
-/// Listens on the port, and serves all connections. Fails with `CannotListen` if the server can't listen on
-/// the port, with `NoMemory` if memory runs out, and with the errors of [`serve_over`].
-fn serve_at_port<T: Shelf>(
+/// Listens on the ports, and serves all connections. Fails with `CannotListen` if the server can't listen on
+/// a port, with `NoMemory` if memory runs out, and with the errors of [`serve_over`].
+fn serve_at_ports<T: OpenShelf>(
     rt: &HostRuntime,
     options: &ServeOptions<'_>,
-    counts: FileCounts,
-    start: Instant,
-    hub: &mut Hub<WatchedShelf<CachedShelf<T>, LogWatch<'_>>>,
+    hub: &mut Hub<ServedShelf<'_, T>>,
+    admin: &mut Admin,
 ) -> Result<(), CommandFault> {
-    match Sockets::listen(rt, rt.alloc(), options.port, None, options.connections) {
+    let admin_port = match options.admin {
+        Some(admin) => Some(admin.port),
+        None => None,
+    };
+    let (port, connections) = (options.port, options.connections);
+    match Sockets::listen(rt, rt.alloc(), port, admin_port, connections) {
         Ok(sockets) => {
             let mut sockets = sockets;
             sockets.set_limits(limits_of(options.limits));
-            log_files(rt, options, counts);
-            log_start(rt, hub.shelf_mut(), start, sockets.port());
-            serve_over(rt, &mut sockets, hub)
+            log_ports(rt, sockets.port(), sockets.admin_port());
+            serve_over(rt, &mut sockets, hub, admin)
         }
         Err(Failed::Because(_)) => Err(CommandFault::CannotListen),
         Err(Failed::NoMemory) => Err(CommandFault::Run(RunFault::NoMemory)),
@@ -150,21 +158,45 @@ fn limits_of(options: LimitOptions) -> Limits {
     }
 }
 
-/// Prints the address that the server listens on, and serves all connections. Fails with `Output` if the
-/// address can't be printed, and with `CannotServe` if serving fails.
-fn serve_over<S: Shelf>(
+/// Prints the addresses that the server listens on, and serves all connections. Fails with `Output` if they
+/// can't be printed, with `CannotServe` if serving fails, and with the errors of [`end_of`].
+fn serve_over<T: OpenShelf>(
     rt: &HostRuntime,
     sockets: &mut Sockets<'_, HostRuntime>,
-    hub: &mut Hub<S>,
+    hub: &mut Hub<ServedShelf<'_, T>>,
+    admin: &mut Admin,
 ) -> Result<(), CommandFault> {
-    if println!(rt; "listening on 127.0.0.1:{}", sockets.port()).is_err() {
+    if print_addresses(rt, sockets.port(), sockets.admin_port()).is_err() {
         return Err(CommandFault::Run(RunFault::Output));
     }
-    match serve(rt.alloc(), sockets, hub, &mut NoOperator) {
-        Ok(_) => {
+    match serve(rt.alloc(), sockets, hub, admin) {
+        Ok(_) => end_of(rt, admin.ending()),
+        Err(_) => Err(CommandFault::CannotServe),
+    }
+}
+
+/// Prints the address for clients, and that for the administrator, if there is one.
+fn print_addresses(rt: &HostRuntime, port: u16, admin_port: Option<u16>) -> std::io::Result<()> {
+    println!(rt; "listening on 127.0.0.1:{port}")?;
+    match admin_port {
+        Some(port) => println!(rt; "administrator on 127.0.0.1:{port}"),
+        None => Ok(()),
+    }
+}
+
+/// Returns how the program ends after a server that ended for this reason; `None` is the end of its last
+/// connection. Fails with `FilesGone` or `StoreShut` if the server can't go on, and logs any other end.
+fn end_of(rt: &HostRuntime, ending: Option<AdminEnding>) -> Result<(), CommandFault> {
+    match ending {
+        Some(AdminEnding::FilesGone) => Err(CommandFault::FilesGone),
+        Some(AdminEnding::StoreShut) => Err(CommandFault::StoreShut),
+        Some(AdminEnding::Stopped) => {
+            let _printed = eprintln!(rt; "scimd: stopped by the administrator");
+            Ok(())
+        }
+        None => {
             let _printed = eprintln!(rt; "scimd: stopped after the last connection");
             Ok(())
         }
-        Err(_) => Err(CommandFault::CannotServe),
     }
 }
