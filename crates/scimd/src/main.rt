@@ -3,6 +3,7 @@
 //! The exit status is 0 on success, 2 for an error in the command line, and 1 for any other error.
 #![tactic(auto)]
 
+mod archives;
 mod audit_logs;
 mod database_files;
 mod databases;
@@ -10,6 +11,7 @@ mod servers;
 mod start_lines;
 mod system_hosts;
 
+use archives::run_archive;
 use clap::{ArgMatches, Error};
 use databases::{run_audit, run_explain, run_export, run_import};
 use scim_command::{
@@ -92,7 +94,7 @@ fn run_command(rt: &HostRuntime, matches: &ArgMatches<'_>) -> Result<(), Command
         Some(CommandName::Audit) => run_audit(rt, matches),
         Some(CommandName::Export) => run_export(rt, matches),
         Some(CommandName::Import) => run_import(rt, matches),
-        Some(CommandName::Archive) => Err(CommandFault::BadOption),
+        Some(CommandName::Archive) => run_archive(rt, matches),
         None => Err(CommandFault::BadOption),
     }
 }
