@@ -12,6 +12,7 @@ use scim_hub::Hub;
 use scim_route::Routes;
 use scim_serve::serve;
 use scim_service::Service;
+use scim_shelf::CachedShelf;
 use scim_shelf_watch::WatchedShelf;
 use sqlite::{Alter, Connection};
 
@@ -34,7 +35,16 @@ impl OverDatabase for Administered {
     ) -> Result<String, StoreFault> {
         let parts = Parts::of(case)?;
         let shelf = filled(case, "users", connection)?;
-        served(case, parts, cached(case.alloc, shelf)?)
+        served(case, parts, with_cache(case, shelf)?)
+    }
+}
+
+/// Returns a store with a cache, which isn't filled yet if the case is `unfilled`.
+fn with_cache<S: Audited>(case: &Case<'_>, shelf: S) -> Result<CachedShelf<S>, StoreFault> {
+    if case.is_true("unfilled") {
+        Ok(CachedShelf::over(shelf))
+    } else {
+        cached(case.alloc, shelf)
     }
 }
 
@@ -99,7 +109,8 @@ fn served<S: Audited + OpenShelf>(
     let shelf = WatchedShelf::over(shelf, ServerWatch::new(case.alloc, host), 0);
     let service = Service::new(policy, shelf, base);
     let mut hub = Hub::new(case.alloc, routes, service, tokens);
-    let mut admin = Admin::new(case.alloc, Some(admin_tokens));
+    let has_cache = !case.is_true("without_cache");
+    let mut admin = Admin::new(case.alloc, Some(admin_tokens), has_cache);
     let text = run(case, peers, &mut hub, &mut admin);
     hub.into_service().into_shelf().into_lower().close();
     text

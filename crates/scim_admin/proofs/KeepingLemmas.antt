@@ -8,7 +8,7 @@ use Rattle.scim_hub.specs.HubSetting.{hub_shelf, hub_tokens, with_hub_shelf, wit
 use Rattle.scim_admin.specs.declared.hosts.Setting.{Setting}
 use Rattle.scim_admin.specs.Hubs.{KeepsState, KeepsHub, Reloads}
 use Rattle.scim_admin.specs.Reloads.{ChangesByReload, HasKnownTokens}
-use Rattle.scim_admin.specs.Shelves.{KeepsShelf}
+use Rattle.scim_admin_streams.specs.Shelves.{KeepsShelf}
 
 -- ---- a shelf
 

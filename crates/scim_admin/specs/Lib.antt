@@ -1,5 +1,6 @@
+pub mod Answers
+pub mod Connections
 pub mod Hubs
+pub mod Jobs
 pub mod Reloads
 pub mod Replies
-pub mod Shelves
-pub mod code

@@ -1,23 +1,24 @@
 //! Carries out the requests of the administrator.
-ghost use Rattle.std.specs.Prelude.{◌≡◌, List, None, Some, IfOk, IsTrue, false, is_some, string_bytes};
+ghost use Rattle.std.specs.Prelude.{◌≡◌, List, None, Some, IfOk, IfErr, IsSome, IsTrue, false, is_some, codes, string_bytes};
+ghost use Rattle.scim_shelf.specs.Caches.{HasKeyed};
 ghost use Rattle.scim_token.specs.TokenFile.{Entry};
 ghost use Rattle.scim_token.specs.Tokens.{Knows};
 ghost use Rattle.scim_token.specs.declared.token_table.Tokens.{Tokens};
 ghost use Rattle.scim_hub.specs.Answering.{client_of};
-ghost use Rattle.scim_admin.specs.Replies.{IsUnauthorized};
+ghost use Rattle.scim_admin.specs.Answers as spec;
+ghost use Rattle.scim_admin.specs.Answers.{IsReplyTo, Tells, TellsAll, TellsRows, TellsWhy};
+ghost use Rattle.scim_admin.specs.Replies.{IsUnauthorized, Says};
 ghost use Rattle.scim_serve.specs.Peers.{KeepsClients};
 ghost use Rattle.scim_admin.specs.Hubs.{KeepsHub, Reloads};
-ghost use Rattle.scim_admin.specs.Shelves.{KeepsShelf};
+ghost use Rattle.scim_admin_streams.specs.Shelves.{KeepsShelf};
 
-use crate::audit_jobs::AuditJob;
-use crate::export_jobs::ExportJob;
 use crate::figures::metrics;
 use crate::hosts::Host;
 use crate::jobs::Job;
-use crate::open_shelves::OpenShelf;
 use crate::reloads::{log, reload};
 use crate::replies::{Reply, plain, refused, streamed};
 use crate::watching::ServerWatch;
+use scim_admin_streams::{AuditJob, ExportJob, OpenShelf};
 use scim_admin_text::{
     AdminRefusal, AdminRequest, AuditQuery, ExplainQuery, Parameter, Status, request_of,
 };
@@ -89,6 +90,10 @@ pub(crate) fn answer<P: Peers, S: OpenShelf, H: Host>(
     ensures closed { standing.old.tokens ≡ None → (hub.new ≡ hub.old)
         × (standing.new ≡ standing.old)
         × IfOk result (λ reply. IsUnauthorized (string_bytes reply.text)) }
+    ensures tells { IfOk result (IsReplyTo ⟦<WatchedShelf<S, ServerWatch<H>> as Shelf>⟧.stands
+        ⟦<WatchedShelf<S, ServerWatch<H>> as Shelf>⟧.is_honest
+        ⟦<WatchedShelf<S, ServerWatch<H>> as Shelf>⟧.failures hub.old hub.new
+        standing.old.is_exporting message.now) }
 {
     if !is_admitted(&standing.tokens, message) {
         return refused(alloc, AdminRefusal::NoToken, message.close);
@@ -113,6 +118,10 @@ fn carry_out<P: Peers, S: OpenShelf, H: Host>(
         peers.old peers.new }
     ensures reloads { Reloads ⟦<WatchedShelf<S, ServerWatch<H>> as Shelf>⟧.stands
         ⟦<WatchedShelf<S, ServerWatch<H>> as Shelf>⟧.is_honest H.gives hub.old hub.new }
+    ensures tells { IfOk result (Tells ⟦<WatchedShelf<S, ServerWatch<H>> as Shelf>⟧.stands
+        ⟦<WatchedShelf<S, ServerWatch<H>> as Shelf>⟧.is_honest
+        ⟦<WatchedShelf<S, ServerWatch<H>> as Shelf>⟧.failures hub.old hub.new
+        standing.old.is_exporting closes request) }
 {
     match request {
         AdminRequest::Health => health(alloc, hub.shelf_mut(), closes),
@@ -174,13 +183,22 @@ fn list<S: OpenShelf, H: Host>(
 ) -> Result<Reply, NoMemory>
     ensures keeps { KeepsShelf ⟦<WatchedShelf<S, ServerWatch<H>> as Shelf>⟧.stands
         ⟦<WatchedShelf<S, ServerWatch<H>> as Shelf>⟧.is_honest shelf.old shelf.new }
+    ensures tells { IfOk result (TellsRows
+        (⟦<WatchedShelf<S, ServerWatch<H>> as Shelf>⟧.stands shelf.old) query closes) }
 {
-    let content = match query.format {
-        LineFormat::Words => "text/plain; charset=utf-8",
-        LineFormat::Json => "application/x-ndjson",
-    };
+    let content = content_of(query.format);
     let job = AuditJob::new(query, shelf.rows());
     streamed(alloc, content, closes, Job::audit(job, !closes))
+}
+
+/// Returns the media type of rows in this form.
+fn content_of(format: LineFormat) -> &'static str
+    ensures { result.now ≡ spec.content_of format }
+{
+    match format {
+        LineFormat::Words => "text/plain; charset=utf-8",
+        LineFormat::Json => "application/x-ndjson",
+    }
 }
 
 /// Begins to export all resources, unless another connection does so.
@@ -192,6 +210,11 @@ fn export<S: OpenShelf, H: Host>(
 ) -> Result<Reply, NoMemory>
     ensures keeps { KeepsShelf ⟦<WatchedShelf<S, ServerWatch<H>> as Shelf>⟧.stands
         ⟦<WatchedShelf<S, ServerWatch<H>> as Shelf>⟧.is_honest shelf.old shelf.new }
+    ensures tells { IfOk result (TellsAll
+        (HasKeyed ⟦<WatchedShelf<S, ServerWatch<H>> as Shelf>⟧.stands)
+        ⟦<WatchedShelf<S, ServerWatch<H>> as Shelf>⟧.is_honest
+        ⟦<WatchedShelf<S, ServerWatch<H>> as Shelf>⟧.failures shelf.old shelf.new
+        is_exporting closes) }
 {
     if is_exporting {
         let body = "another export isn't finished\n";
@@ -209,14 +232,20 @@ fn export<S: OpenShelf, H: Host>(
 }
 
 /// Returns the reply if the store can't be read.
-fn unreadable(alloc: Global, closes: bool) -> Result<Reply, NoMemory> {
+fn unreadable(alloc: Global, closes: bool) -> Result<Reply, NoMemory>
+    ensures { IfOk result (Says Status.InternalServerError (codes "the database can't be read\n")) }
+{
     let body = "the database can't be read\n";
     plain(alloc, Status::InternalServerError, closes, body)
 }
 
 /// Returns the leaf that the query names, if it names one. Fails with `BadValue` if its path doesn't name one
 /// leaf of the kind.
-fn leaf_of(query: &ExplainQuery) -> Result<Option<Leaf>, AdminRefusal> {
+fn leaf_of(query: &ExplainQuery) -> Result<Option<Leaf>, AdminRefusal>
+    ensures leaf { IfOk result (spec.IsLeafOf query.now) }
+    ensures fault { IfErr result (λ fault. IsSome query.now.path
+        × (fault ≡ AdminRefusal.BadValue Parameter.Path)) }
+{
     match &query.path {
         Some(path) => match leaf_at(query.kind, path.as_str()) {
             Some(leaf) => Ok(Some(leaf)),
@@ -235,6 +264,9 @@ fn explain<S: OpenShelf, H: Host>(
 ) -> Result<Reply, NoMemory>
     ensures keeps { KeepsHub ⟦<WatchedShelf<S, ServerWatch<H>> as Shelf>⟧.stands
         ⟦<WatchedShelf<S, ServerWatch<H>> as Shelf>⟧.is_honest hub.old hub.new }
+    ensures tells { IfOk result (TellsWhy ⟦<WatchedShelf<S, ServerWatch<H>> as Shelf>⟧.stands
+        ⟦<WatchedShelf<S, ServerWatch<H>> as Shelf>⟧.is_honest
+        ⟦<WatchedShelf<S, ServerWatch<H>> as Shelf>⟧.failures hub.old hub.new query.now) }
 {
     let leaf = match leaf_of(query) {
         Ok(leaf) => leaf,

@@ -1,6 +1,8 @@
 //! The connections of the administrator.
-ghost use Rattle.std.specs.Prelude.{IsTrue};
+ghost use Rattle.std.specs.Prelude.{◌≡◌, ◌≤◌, ℕ, IsTrue, None, Some, drop, string_bytes, if◌then◌else◌};
 ghost use Rattle.scim_serve.specs.Peers.{KeepsClients};
+ghost use Rattle.scim_admin.specs.Connections as spec;
+ghost use Rattle.scim_admin.specs.Jobs.{is_done};
 
 use crate::jobs::Job;
 use crate::replies::Reply;
@@ -72,7 +74,11 @@ impl AdminConnection {
     }
 
     /// Returns what the connection needs next, and takes it out of the connection.
-    pub(crate) fn next(&mut self) -> Need {
+    pub(crate) fn next(&mut self) -> Need
+        ensures next { spec.IsNext self.old result }
+        ensures pending { spec.pending_of self.new ≡ spec.pending_of self.old }
+        ensures closing { spec.closes_after self.new ≡ spec.closes_after self.old }
+    {
         if self.taken < self.pending.len() {
             return Need::Offer;
         }
@@ -89,13 +95,18 @@ impl AdminConnection {
     }
 
     /// Replaces what is to be written, of which nothing may be pending.
-    fn write(&mut self, text: String) {
+    fn write(&mut self, text: String)
+        ensures { spec.Writes (string_bytes text) (spec.job_of self.old)
+            (spec.closes_after self.old) self.new }
+    {
         self.pending = text;
         self.taken = 0;
     }
 
     /// Begins to write a reply.
-    pub(crate) fn begin(&mut self, reply: Reply) {
+    pub(crate) fn begin(&mut self, reply: Reply)
+        ensures { spec.Writes (string_bytes reply.text) reply.job reply.closes self.new }
+    {
         let Reply { text, job, closes } = reply;
         self.write(text);
         self.job = job;
@@ -103,17 +114,22 @@ impl AdminConnection {
     }
 
     /// Begins to write a piece of a reply's body, and keeps the job if it isn't done.
-    pub(crate) fn carry_on(&mut self, text: String, job: Job) {
+    pub(crate) fn carry_on(&mut self, text: String, job: Job)
+        ensures { spec.Writes (string_bytes text) (if is_done job then None else Some job)
+            (spec.closes_after self.old) self.new }
+    {
         self.write(text);
-        if !job.is_done() {
-            self.job = Some(job);
-        }
+        self.job = if job.is_done() { None } else { Some(job) };
     }
 
     /// Offers what is to be written, which may be nothing. `peers` reports when the connection may take more.
     pub(crate) fn offer<P: Peers>(&mut self, peers: &mut P, number: u64)
         ensures clients { IsTrue P.is_known → KeepsClients P.seen P.written P.takes_all
             P.is_closed peers.old peers.new }
+        ensures taken { (count : ℕ)
+            × (spec.pending_of self.new ≡ drop count (spec.pending_of self.old)) }
+        ensures rest { spec.job_of self.new ≡ spec.job_of self.old }
+        ensures closing { spec.closes_after self.new ≡ spec.closes_after self.old }
     {
         let rest = self.pending.as_bytes().get(self.taken..).unwrap_or(&[]);
         let count = peers.write_to_admin(number, rest);

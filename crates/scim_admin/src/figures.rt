@@ -1,9 +1,9 @@
 //! The figures of a server.
-ghost use Rattle.scim_admin.specs.Shelves.{KeepsShelf};
+ghost use Rattle.scim_admin_streams.specs.Shelves.{KeepsShelf};
 
 use crate::hosts::Host;
-use crate::open_shelves::OpenShelf;
 use crate::watching::{CommitFigures, ServerWatch};
+use scim_admin_streams::OpenShelf;
 use scim_admin_text::{MetricKind, MetricTexts};
 use scim_serve::Figures;
 use scim_shelf::Shelf;

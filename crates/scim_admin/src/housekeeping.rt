@@ -1,19 +1,19 @@
 //! What is looked after once a second: the database's files, its connection and the cache.
-ghost use Rattle.scim_admin.specs.Shelves.{KeepsShelf};
+ghost use Rattle.scim_admin_streams.specs.Shelves.{KeepsShelf};
 
 use crate::hosts::Host;
-use crate::open_shelves::OpenShelf;
 use crate::reloads::log;
 use crate::watching::ServerWatch;
+use scim_admin_streams::OpenShelf;
 use scim_shelf::{Shelf, ShelfFault};
 use scim_shelf_watch::WatchedShelf;
 use scim_text::Failed;
 use std::alloc::Global;
 
-/// The first pause before the cache is filled again, in ticks.
+/// The first pause before a try to fill the cache, in ticks.
 const FIRST_PAUSE: u64 = 60;
 
-/// The longest pause before the cache is filled again, in ticks.
+/// The longest pause before a try to fill the cache, in ticks.
 const LONGEST_PAUSE: u64 = 3_840;
 
 /// Why a server has to end.
@@ -34,20 +34,23 @@ pub(crate) struct Housekeeping {
     were_files_gone: bool,
     /// The number of commits that had failed with the device at the last tick.
     device_faults: u64,
+    /// Whether the server is to have a cache.
+    has_cache: bool,
     /// Whether the cache was ever filled.
     was_filled: bool,
-    /// The pause before the cache is filled again, in ticks; 0 while the cache is filled.
+    /// The pause before the next try to fill the cache, in ticks; 0 while the cache is filled.
     pause: u64,
     /// How many ticks of the pause are left.
     left: u64,
 }
 
 impl Housekeeping {
-    /// Returns what is known before the first tick.
-    pub(crate) fn new() -> Housekeeping {
+    /// Returns the state before the first tick.
+    pub(crate) fn new(has_cache: bool) -> Housekeeping {
         Housekeeping {
             were_files_gone: false,
             device_faults: 0,
+            has_cache,
             was_filled: false,
             pause: 0,
             left: 0,
@@ -102,8 +105,8 @@ impl Housekeeping {
         )
     }
 
-    /// Notes whether the cache is filled. If it was given up, tries to fill it again after a pause, which grows
-    /// from a minute to about an hour.
+    /// Notes whether the cache is filled. If it was given up, or couldn't be filled at the start, tries to fill
+    /// it after a pause, which grows from a minute to about an hour.
     fn look_after_cache<S: OpenShelf, H: Host>(
         &mut self,
         alloc: Global,
@@ -117,26 +120,41 @@ impl Housekeeping {
             self.pause = 0;
             return;
         }
-        if !self.was_filled {
+        if !self.has_cache {
             return;
         }
         if self.pause == 0 {
             self.pause = FIRST_PAUSE;
             self.left = FIRST_PAUSE;
-            log(
-                shelf,
-                "the cache was given up for lack of memory: reads go to the database",
-            );
+            log(shelf, self.lack_line());
             return;
         }
         self.left = self.left.saturating_sub(1);
         if self.left == 0 {
-            self.fill_again(alloc, shelf);
+            self.try_to_fill(alloc, shelf);
         }
     }
 
-    /// Tries to fill the cache again. Otherwise doubles the pause, up to the longest one.
-    fn fill_again<S: OpenShelf, H: Host>(
+    /// Returns the line for the operator when the cache isn't filled.
+    fn lack_line(&self) -> &'static str {
+        if self.was_filled {
+            "the cache was given up for lack of memory: reads go to the database"
+        } else {
+            "the cache isn't filled for lack of memory: reads go to the database"
+        }
+    }
+
+    /// Returns the line for the operator when the cache is filled.
+    fn filled_line(&self) -> &'static str {
+        if self.was_filled {
+            "the cache is filled again"
+        } else {
+            "the cache is filled"
+        }
+    }
+
+    /// Tries to fill the cache. Otherwise doubles the pause, up to the longest one.
+    fn try_to_fill<S: OpenShelf, H: Host>(
         &mut self,
         alloc: Global,
         shelf: &mut WatchedShelf<S, ServerWatch<H>>,
@@ -147,7 +165,7 @@ impl Housekeeping {
         match shelf.fill_cache(alloc) {
             Ok(()) => {
                 self.pause = 0;
-                log(shelf, "the cache is filled again");
+                log(shelf, self.filled_line());
             }
             Err(_) => {
                 self.pause = self.pause.saturating_mul(2).min(LONGEST_PAUSE);

@@ -1,14 +1,14 @@
 //! The bodies that are sent in pieces.
-ghost use Rattle.scim_admin.specs.Shelves.{KeepsShelf};
+ghost use Rattle.std.specs.Prelude.{◌≡◌, ◌++◌, [], true, false, IfOk, OnOk, string_bytes};
+ghost use Rattle.scim_shelf.specs.Caches.{HasKeyed};
+ghost use Rattle.scim_shelf.specs.Shelves.{Answers};
+ghost use Rattle.scim_shelf.specs.Stores.{Store};
+ghost use Rattle.scim_admin_streams.specs.Shelves.{KeepsShelf};
+ghost use Rattle.scim_admin.specs.Jobs as spec;
 
-use crate::audit_jobs::AuditJob;
-use crate::export_jobs::{ExportFault, ExportJob};
-use crate::hosts::Host;
-use crate::open_shelves::OpenShelf;
-use crate::watching::ServerWatch;
+use scim_admin_streams::{AuditJob, ExportFault, ExportJob, OpenShelf};
 use scim_admin_text::{add_chunk, last_chunk};
-use scim_shelf::{Shelf, ShelfFault};
-use scim_shelf_watch::WatchedShelf;
+use scim_shelf::ShelfFault;
 use scim_text::{Failed, NoMemory};
 use std::alloc::Global;
 
@@ -77,9 +77,41 @@ impl From<ExportFault> for Cut {
     }
 }
 
+impl Work {
+    /// Whether all is done.
+    fn is_done(&self) -> bool
+        ensures value { result ≡ spec.is_at_end self.now }
+        ensures end { result ≡ true → (store : Store) → spec.rest_at self.now store ≡ [] }
+    {
+        match self {
+            Work::Audit(job) => job.is_done(),
+            Work::Export(job, _) => job.is_done(),
+        }
+    }
+
+    /// Does the next part, and returns its text. After an error the work can't be carried on.
+    fn next<S: OpenShelf>(&mut self, alloc: Global, shelf: &mut S) -> Result<String, Cut>
+        ensures keeps { KeepsShelf S.stands S.is_honest shelf.old shelf.new }
+        ensures piece { IfOk result (Answers (HasKeyed S.stands) S.is_honest shelf.old shelf.new
+            (λ store text. spec.IsOver self.old store → spec.rest_at self.old store
+            ≡ string_bytes text ++ spec.rest_at self.new store)) }
+        ensures over { (store : Store) → spec.IsOver self.old store → spec.IsOver self.new store }
+        ensures shorter { OnOk result (spec.is_at_end self.old ≡ false
+            → spec.IsShorter self.old self.new) }
+    {
+        match self {
+            Work::Audit(job) => Ok(job.next(alloc, shelf)?),
+            Work::Export(job, _) => Ok(job.next(alloc, shelf)?),
+        }
+    }
+}
+
 impl Job {
     /// Returns the job that lists rows of the audit.
-    pub(crate) fn audit(job: AuditJob, is_chunked: bool) -> Job {
+    pub(crate) fn audit(job: AuditJob, is_chunked: bool) -> Job
+        ensures work { result.work ≡ Work.Audit job }
+        ensures framing { result.is_chunked ≡ is_chunked }
+    {
         Job {
             work: Work::Audit(job),
             is_chunked,
@@ -87,7 +119,10 @@ impl Job {
     }
 
     /// Returns the job that exports all resources. It began after `changes` commits that changed a resource.
-    pub(crate) fn export(job: ExportJob, changes: u64, is_chunked: bool) -> Job {
+    pub(crate) fn export(job: ExportJob, changes: u64, is_chunked: bool) -> Job
+        ensures work { result.work ≡ Work.Export job changes }
+        ensures framing { result.is_chunked ≡ is_chunked }
+    {
         Job {
             work: Work::Export(job, changes),
             is_chunked,
@@ -100,11 +135,11 @@ impl Job {
     }
 
     /// Whether the whole body is sent.
-    pub(crate) fn is_done(&self) -> bool {
-        match &self.work {
-            Work::Audit(job) => job.is_done(),
-            Work::Export(job, _) => job.is_done(),
-        }
+    pub(crate) fn is_done(&self) -> bool
+        ensures value { result ≡ spec.is_done self.now }
+        ensures end { result ≡ true → (store : Store) → spec.rest_of self.now store ≡ [] }
+    {
+        self.work.is_done()
     }
 
     /// Whether the connection ends with the body.
@@ -112,36 +147,41 @@ impl Job {
         !self.is_chunked
     }
 
+    /// Whether a commit changed a resource since an export began. There were `changes` such commits.
+    fn is_outdated(&self, changes: u64) -> bool {
+        match &self.work {
+            Work::Audit(_) => false,
+            Work::Export(_, then) => *then != changes,
+        }
+    }
+
     /// Does the next part of the job, and returns what is to be written. It may be nothing, if the job isn't
-    /// done. After an error the job can't be carried on.
-    pub(crate) fn next<S: OpenShelf, H: Host>(
+    /// done. There were `changes` commits that changed a resource. After an error the job can't be carried on.
+    pub(crate) fn next<S: OpenShelf>(
         &mut self,
         alloc: Global,
-        shelf: &mut WatchedShelf<S, ServerWatch<H>>,
+        shelf: &mut S,
+        changes: u64,
     ) -> Result<String, Cut>
-        ensures keeps { KeepsShelf ⟦<WatchedShelf<S, ServerWatch<H>> as Shelf>⟧.stands
-            ⟦<WatchedShelf<S, ServerWatch<H>> as Shelf>⟧.is_honest shelf.old shelf.new }
+        ensures keeps { KeepsShelf S.stands S.is_honest shelf.old shelf.new }
+        ensures piece { IfOk result (Answers (HasKeyed S.stands) S.is_honest shelf.old shelf.new
+            (λ store text. spec.IsOver self.old.work store
+            → spec.SendsPiece self.old self.new store (string_bytes text))) }
+        ensures goes_on { OnOk result (spec.GoesOn self.old self.new) }
     {
-        let piece = match &mut self.work {
-            Work::Audit(job) => job.next(alloc, shelf)?,
-            Work::Export(job, changes) => {
-                if shelf.watcher().commits().changes != *changes {
-                    return Err(Cut::Changed);
-                }
-                job.next(alloc, shelf)?
-            }
-        };
+        if self.is_outdated(changes) {
+            return Err(Cut::Changed);
+        }
+        let piece = self.work.next(alloc, shelf)?;
         Ok(framed(alloc, piece, self.is_chunked, self.is_done())?)
     }
 }
 
 /// Returns a piece as it is written. If it is the last one of a body in chunks, the end of the body follows.
-fn framed(
-    alloc: Global,
-    piece: String,
-    is_chunked: bool,
-    is_last: bool,
-) -> Result<String, NoMemory> {
+fn framed(alloc: Global, piece: String, is_chunked: bool, is_last: bool) -> Result<String, NoMemory>
+    ensures { IfOk result (λ text. string_bytes text
+        ≡ spec.framed is_chunked is_last (string_bytes piece)) }
+{
     if !is_chunked {
         return Ok(piece);
     }

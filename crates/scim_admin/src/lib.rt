@@ -4,14 +4,11 @@
 #![tactic(auto)]
 
 mod answers;
-mod audit_jobs;
 mod connections;
-mod export_jobs;
 mod figures;
 mod hosts;
 mod housekeeping;
 mod jobs;
-mod open_shelves;
 mod operators;
 mod reloads;
 mod replies;
@@ -20,6 +17,6 @@ mod watching;
 
 pub use hosts::{Host, Setting};
 pub use housekeeping::AdminEnding;
-pub use open_shelves::OpenShelf;
 pub use operators::Admin;
+pub use scim_admin_streams::OpenShelf;
 pub use watching::ServerWatch;

@@ -1,18 +1,19 @@
 //! The administrator's port.
-ghost use Rattle.std.specs.Prelude.{IsTrue};
+ghost use Rattle.std.specs.Prelude.{◌≡◌, IsTrue};
 ghost use Rattle.scim_serve.specs.Peers.{KeepsClients};
+ghost use Rattle.scim_admin.specs.Connections.{Continues, closes_after};
 ghost use Rattle.scim_admin.specs.Hubs.{Reloads};
-ghost use Rattle.scim_admin.specs.Shelves.{KeepsShelf};
+ghost use Rattle.scim_admin_streams.specs.Shelves.{KeepsShelf};
 
 use crate::answers::{Standing, answer, refuse_input};
 use crate::connections::{AdminConnection, Need};
 use crate::hosts::Host;
 use crate::housekeeping::{AdminEnding, Housekeeping};
 use crate::jobs::Job;
-use crate::open_shelves::OpenShelf;
 use crate::reloads::log;
 use crate::replies::Reply;
 use crate::watching::ServerWatch;
+use scim_admin_streams::OpenShelf;
 use scim_hub::Hub;
 use scim_serve::{AdminEvent, AdminEventKind, Operator, Pause, Peers, Then};
 use scim_shelf::Shelf;
@@ -55,8 +56,9 @@ impl Drop for Admin {
 
 impl Admin {
     /// Returns an administrator's port without connections, for administrators with these tokens. Without
-    /// tokens no request is carried out.
-    pub fn new(alloc: Global, admin_tokens: Option<Tokens>) -> Admin {
+    /// tokens no request is carried out. `has_cache` says whether the server is to have a cache: then it is
+    /// filled later if it isn't filled at the start.
+    pub fn new(alloc: Global, admin_tokens: Option<Tokens>, has_cache: bool) -> Admin {
         Admin {
             connections: BTreeMap::new(alloc),
             standing: Standing {
@@ -64,7 +66,7 @@ impl Admin {
                 is_exporting: false,
                 is_stopped: false,
             },
-            housekeeping: Housekeeping::new(),
+            housekeeping: Housekeeping::new(has_cache),
             ending: None,
             has_ended: false,
         }
@@ -227,9 +229,15 @@ fn carry_on<S: OpenShelf, H: Host>(
 ) -> Next
     ensures keeps { KeepsShelf ⟦<WatchedShelf<S, ServerWatch<H>> as Shelf>⟧.stands
         ⟦<WatchedShelf<S, ServerWatch<H>> as Shelf>⟧.is_honest shelf.old shelf.new }
+    ensures continues { result ≡ Next.Offer → Continues
+        ⟦<WatchedShelf<S, ServerWatch<H>> as Shelf>⟧.stands
+        ⟦<WatchedShelf<S, ServerWatch<H>> as Shelf>⟧.is_honest
+        shelf.old shelf.new job connection.new }
+    ensures closing { closes_after connection.new ≡ closes_after connection.old }
 {
     let mut job = job;
-    match job.next(alloc, shelf) {
+    let changes = shelf.watcher().commits().changes;
+    match job.next(alloc, shelf, changes) {
         Ok(text) => {
             connection.carry_on(text, job);
             Next::Offer

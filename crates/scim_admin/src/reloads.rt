@@ -1,14 +1,15 @@
 //! Reads the policy and the token files again.
-ghost use Rattle.std.specs.Prelude.{◌≡◌, IfOk, Some};
+ghost use Rattle.std.specs.Prelude.{◌≡◌, ℕ, List, IfOk, Some};
 ghost use Rattle.scim_hub.specs.HubSetting.{with_hub_setting};
 ghost use Rattle.scim_admin.specs.Hubs.{Reloads};
-ghost use Rattle.scim_admin.specs.Reloads.{HasKnownTokens};
-ghost use Rattle.scim_admin.specs.Shelves.{KeepsShelf};
+ghost use Rattle.scim_admin.specs.Reloads.{HasKnownTokens, TellsReload};
+ghost use Rattle.scim_admin.specs.Replies.{Says};
+ghost use Rattle.scim_admin_streams.specs.Shelves.{KeepsShelf};
 
 use crate::hosts::{Host, Setting};
-use crate::open_shelves::OpenShelf;
 use crate::replies::{Reply, plain};
 use crate::watching::ServerWatch;
+use scim_admin_streams::OpenShelf;
 use scim_admin_text::Status;
 use scim_hub::Hub;
 use scim_shelf::Shelf;
@@ -48,6 +49,8 @@ pub(crate) fn reload<S: OpenShelf, H: Host>(
 ) -> Result<Reply, NoMemory>
     ensures reloads { Reloads ⟦<WatchedShelf<S, ServerWatch<H>> as Shelf>⟧.stands
         ⟦<WatchedShelf<S, ServerWatch<H>> as Shelf>⟧.is_honest H.gives hub.old hub.new }
+    ensures tells { IfOk result (TellsReload H.gives hub.old hub.new
+        admin_tokens.old admin_tokens.new) }
 {
     match read_again(alloc, hub.shelf_mut()) {
         Ok(setting) => {
@@ -68,6 +71,7 @@ fn accept<S: OpenShelf, H: Host>(
 ) -> Result<Reply, NoMemory>
     ensures keeps { KeepsShelf ⟦<WatchedShelf<S, ServerWatch<H>> as Shelf>⟧.stands
         ⟦<WatchedShelf<S, ServerWatch<H>> as Shelf>⟧.is_honest shelf.old shelf.new }
+    ensures says { IfOk result (λ reply. (body : List ℕ) × Says Status.Ok body reply) }
 {
     let line = format!(in alloc; "reload: ok, {summary}")?;
     let body = format!(in alloc; "ok, {summary}\n")?;
@@ -85,6 +89,7 @@ fn reject<S: OpenShelf, H: Host>(
 ) -> Result<Reply, NoMemory>
     ensures keeps { KeepsShelf ⟦<WatchedShelf<S, ServerWatch<H>> as Shelf>⟧.stands
         ⟦<WatchedShelf<S, ServerWatch<H>> as Shelf>⟧.is_honest shelf.old shelf.new }
+    ensures says { IfOk result (λ reply. (body : List ℕ) × Says Status.Conflict body reply) }
 {
     let line = format!(in alloc; "reload: {fault}; the old files stay in force")?;
     log(shelf, line.as_str());

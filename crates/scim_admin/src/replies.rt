@@ -1,6 +1,6 @@
 //! Replies to the administrator.
-ghost use Rattle.std.specs.Prelude.{◌≡◌, IfOk, None, string_bytes};
-ghost use Rattle.scim_admin.specs.Replies.{IsUnauthorized, IsWhole};
+ghost use Rattle.std.specs.Prelude.{◌≡◌, ℕ, List, not, IfOk, string_bytes};
+ghost use Rattle.scim_admin.specs.Replies.{IsUnauthorized, Says, Streams, status_of};
 ghost use Rattle.scim_admin_text.specs.declared.refusals.AdminRefusal.{AdminRefusal};
 
 use crate::jobs::Job;
@@ -30,8 +30,8 @@ fn whole(
     closes: bool,
     body: &str,
 ) -> Result<Reply, NoMemory>
-    ensures text { IfOk result (λ reply. IsWhole status body.now (string_bytes reply.text)) }
-    ensures no_job { IfOk result (λ reply. reply.job ≡ None) }
+    ensures says { IfOk result (Says status body.now) }
+    ensures closing { IfOk result (λ reply. reply.closes ≡ closes) }
 {
     let head = Head {
         status,
@@ -56,8 +56,8 @@ pub(crate) fn plain(
     closes: bool,
     body: &str,
 ) -> Result<Reply, NoMemory>
-    ensures text { IfOk result (λ reply. IsWhole status body.now (string_bytes reply.text)) }
-    ensures no_job { IfOk result (λ reply. reply.job ≡ None) }
+    ensures says { IfOk result (Says status body.now) }
+    ensures closing { IfOk result (λ reply. reply.closes ≡ closes) }
 {
     whole(alloc, status, None, closes, body)
 }
@@ -69,7 +69,11 @@ pub(crate) fn streamed(
     content: &str,
     closes: bool,
     job: Job,
-) -> Result<Reply, NoMemory> {
+) -> Result<Reply, NoMemory>
+    ensures streams { job.is_chunked ≡ not closes
+        → IfOk result (λ reply. Streams content.now closes reply job) }
+    ensures closing { IfOk result (λ reply. reply.closes ≡ closes) }
+{
     let head = Head {
         status: Status::Ok,
         content,
@@ -94,7 +98,8 @@ pub(crate) fn streamed(
 pub(crate) fn refused(alloc: Global, refusal: AdminRefusal, closes: bool) -> Result<Reply, NoMemory>
     ensures token { refusal ≡ AdminRefusal.NoToken
         → IfOk result (λ reply. IsUnauthorized (string_bytes reply.text)) }
-    ensures no_job { IfOk result (λ reply. reply.job ≡ None) }
+    ensures says { IfOk result (λ reply. (body : List ℕ) × Says (status_of refusal) body reply) }
+    ensures closing { IfOk result (λ reply. reply.closes ≡ closes) }
 {
     match refusal {
         AdminRefusal::NoToken => plain(alloc, Status::Unauthorized, closes, NO_TOKEN),

@@ -69,7 +69,7 @@ impl DatabaseWork for Serving<'_> {
                     admin_tokens,
                 } = files;
                 let mut hub = Hub::new(alloc, routes, Service::new(policy, shelf, base), tokens);
-                let mut admin = Admin::new(alloc, admin_tokens);
+                let mut admin = Admin::new(alloc, admin_tokens, options.has_cache);
                 log_files(rt, &options, counts);
                 log_start(rt, hub.shelf_mut(), start);
                 let done = serve_at_ports(rt, &options, &mut hub, &mut admin);

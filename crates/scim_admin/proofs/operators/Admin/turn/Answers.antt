@@ -6,7 +6,7 @@ use Rattle.scim_shelf_watch.specs.declared.watched.WatchedShelf.{WatchedShelf}
 use Rattle.scim_shelf_watch.specs.Watched.{Represents, lower_of}
 use Rattle.scim_admin.specs.declared.watching.ServerWatch.{ServerWatch}
 use Rattle.scim_admin.specs.contracts.watching.ServerWatchWatcher.TheImpl as watcher
-use Rattle.scim_admin.specs.Shelves.{KeepsShelf}
+use Rattle.scim_admin_streams.specs.Shelves.{KeepsShelf}
 use Rattle.scim_admin.proofs.KeepingLemmas.{hub_with_shelf, reload_then}
 use Rattle.scim_admin.proofs.operators.Admin.turn.Goals as goal
 

@@ -2,7 +2,7 @@
 ghost use Rattle.std.specs.Prelude.{IfOk};
 ghost use Rattle.scim_shelf.specs.Shelves.{Answers};
 ghost use Rattle.scim_store_rows.specs.Auditing.{AreRowsFrom};
-ghost use Rattle.scim_admin.specs.Shelves.{KeepsShelf};
+ghost use Rattle.scim_admin_streams.specs.Shelves.{KeepsShelf};
 
 use scim_audit::AuditRow;
 use scim_shelf::{CachedShelf, Shelf, ShelfFault};

@@ -1,0 +1,4 @@
+mod BetweenLemmas
+mod BlockLemmas
+mod ExportLemmas
+mod QueryLemmas

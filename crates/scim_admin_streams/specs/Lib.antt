@@ -1,0 +1,5 @@
+pub mod AuditJobs
+pub mod ExportJobs
+pub mod Faults
+pub mod Shelves
+pub mod code
