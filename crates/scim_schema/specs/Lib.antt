@@ -1,5 +1,6 @@
 pub mod CharacteristicNames
 pub mod Characteristics
+pub mod IndexedLeaves
 pub mod JsonKeys
 pub mod Lookup
 pub mod Mutability

@@ -2,6 +2,7 @@
 ghost use Rattle.std.specs.Prelude.{◌≡◌, ◌↔◌, IsTrue};
 ghost use Rattle.scim_schema.specs.Table as table;
 ghost use Rattle.scim_schema.specs.UniqueLeaves as unique;
+ghost use Rattle.scim_schema.specs.IndexedLeaves as indexed;
 ghost use Rattle.scim_schema.specs.Units as of_units;
 
 use crate::{Attribute, Kind, Leaf, SubAttribute, Unit};
@@ -224,6 +225,14 @@ static UNIQUE_USER_LEAVES: [Leaf; 2] = [leaf!(UserName), leaf!(Badge)];
 
 static UNIQUE_USER_LEAVES_BY_NAME: [Leaf; 2] = [leaf!(Badge), leaf!(UserName)];
 
+static INDEXED_USER_LEAVES: [Leaf; 2] = [leaf!(ExternalId), leaf!(Emails, Value)];
+
+static INDEXED_GROUP_LEAVES: [Leaf; 3] = [
+    leaf!(ExternalId),
+    leaf!(DisplayName),
+    leaf!(Members, Value),
+];
+
 static GROUP_UNITS: [Unit; 8] = [
     unit!(Id),
     unit!(ExternalId),
@@ -363,3 +372,15 @@ pub fn unique_leaves_in_order()
     ensures permuted { unique.UniqueLeavesArePermuted }
     ensures ascending { unique.UniqueLeavesAscend }
 {}
+
+/// The leaves of a kind that a store in memory indexes by text: it finds the resources that have a text at one
+/// of these leaves without reading any other resource.
+#[tactic(auto, unfolding(crate::specs::IndexedLeaves::indexed_leaves))]
+pub fn indexed_leaves(kind: Kind) -> &'static [Leaf]
+    ensures { result.now ≡ indexed.indexed_leaves kind }
+{
+    match kind {
+        Kind::User => &INDEXED_USER_LEAVES,
+        Kind::Group => &INDEXED_GROUP_LEAVES,
+    }
+}

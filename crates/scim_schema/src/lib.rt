@@ -15,8 +15,8 @@ mod names;
 mod schema_urns;
 
 pub use attribute_lists::{
-    attributes, has_leaf, leaves, sub_attributes, unique_leaves, unique_leaves_by_name,
-    unique_leaves_in_order, units,
+    attributes, has_leaf, indexed_leaves, leaves, sub_attributes, unique_leaves,
+    unique_leaves_by_name, unique_leaves_in_order, units,
 };
 pub use characteristics::{
     AttributeType, Characteristics, Mutability, Returned, Uniqueness, attribute_characteristics,
