@@ -1,10 +1,11 @@
--- What is seen of a resource to stand at a leaf of a single-valued attribute stands there in the resource.
+-- What is seen of a resource to stand at a leaf stands there in a value of the resource.
 use Rattle.std.proofs.Common.{◌≡◌, refl, sym, ◌∙◌, ap, subst, ℕ, zero, suc, ◌≤◌, ◌<◌, Bool, true, false, ◌&&◌, ◌||◌, List, [], ◌∷◌, ◌++◌, map, filter, length, inl, inr, arith}
-use Rattle.std.specs.Prelude.{All, AllPairs, Some}
+use Rattle.std.specs.Prelude.{All, AllPairs, Option, None, Some}
 use Rattle.std.specs.List.{list_any}
 use Rattle.std.specs.Ordering.{is_lt, is_eq, is_gt}
 use Rattle.std.proofs.lemmas.Bool.{cases_Bool, or_left, or_right}
-use Rattle.std.proofs.lemmas.List.Elements.{All-head, All-tail, All-filter, filter_passes}
+use Rattle.std.proofs.Math.Bool.{or-false}
+use Rattle.std.proofs.lemmas.List.Elements.{All-head, All-tail, All-weaker, All-filter}
 use Rattle.std.proofs.lemmas.Cmp.{tied_itself}
 use Rattle.std.proofs.lemmas.List.Folds.{list_any-append}
 use denote.Enum.Bare.{sameb, same_true}
@@ -18,7 +19,7 @@ use Rattle.scim_schema.specs.declared.Leaf.{Leaf}
 use Rattle.scim_schema.specs.declared.Unit.{Unit as AttributeUnit}
 use Rattle.scim_schema.specs.Characteristics.{is_multi_valued}
 use Rattle.scim_schema.specs.Units.{whole, unit_of, is_same_leaf, is_same_attribute}
-use Rattle.scim_schema.proofs.Facts.{and_first, and_second, leaf_one, leaf_same}
+use Rattle.scim_schema.proofs.Facts.{and_first, and_second, leaf_one}
 use Rattle.scim_cell.specs.declared.atoms.Atom.{Atom}
 use Rattle.scim_cell.specs.declared.rows.Field.{Field}
 use Rattle.scim_cell.specs.Place.{unit_cmp, sub_attribute_number}
@@ -27,12 +28,12 @@ use Rattle.scim_cell.specs.Order.{id_cmp}
 use Rattle.scim_cell.specs.Rows.{Row, Test, rows, values, put_values, restricted, restricted_row, has_fields, atom_in, atom_at, AreSound, IsSoundRow, IsSoundField, AreValues}
 use Rattle.scim_value.specs.Members.{lists}
 use Rattle.scim_value.specs.Resource.{first_at}
-use Rattle.scim_value.proofs.Facts.{get_cell, sound_part, one_value, unit_total, rows_content, put_sound, restricted_sound, unit_same}
+use Rattle.scim_value.proofs.Facts.{get_cell, sound_part, one_value, unit_total, rows_content, put_sound, restricted_sound}
 use Rattle.scim_filter.specs.Truth.{some_cell, some_atom}
 use Rattle.scim_view.specs.View.{Viewer, read_in, may_be_seen}
 use Rattle.scim_view.specs.Groups.{seen, membership, memberships, rows_with, with_groups, visible_with}
 use Rattle.scim_view.specs.Sorted.{sorted_by}
-use Rattle.scim_view.proofs.GroupLemmas.{restricted-put_values, seen_values, one_leaf}
+use Rattle.scim_view.proofs.GroupLemmas.{restricted-put_values, seen_values}
 
 -- the rows of what is seen of a resource with its groups
 seen_sound : (v : Viewer) (gs : List Content) (c : Content) → IsPart c
@@ -59,22 +60,29 @@ either : (a b c d : Bool) → (a ≡ true → c ≡ true) → (b ≡ true → d 
 either true b c d f g e = rw (f refl) refl
 either false b c d f g e = or_right c d (g e)
 
-any_kept : {X : Type 0} (p q : X → Bool) (xs : List X) → list_any p (filter q xs) ≡ true → list_any p xs ≡ true
+pub any_kept : {X : Type 0} (p q : X → Bool) (xs : List X) → list_any p (filter q xs) ≡ true → list_any p xs ≡ true
 any_kept p q [] e = e
 any_kept p q (x ∷ xs) e = elim (cases_Bool (q x)) [
   | inl t ↦ either (p x) (list_any p (filter q xs)) (p x) (list_any p xs) (λ h. h) (any_kept p q xs) (rw t at e)
   | inr u ↦ or_right (p x) (list_any p xs) (any_kept p q xs (rw u at e))
 ]
 
+-- where an element passes, it passes each test that those that pass also pass
+pub any_weaker : {X : Type 0} (p q : X → Bool) (xs : List X) → All (λ x. p x ≡ true → q x ≡ true) xs → list_any p xs ≡ true → list_any q xs ≡ true
+any_weaker p q [] also e = e
+any_weaker {X = X} p q (x ∷ xs) also e =
+    let Also : X → Type 0 = λ y. p y ≡ true → q y ≡ true in
+    either (p x) (list_any p xs) (q x) (list_any q xs) (All-head Also x xs also) (any_weaker p q xs (All-tail Also x xs also)) e
+
 -- whether a field of the attribute passes, row by row
-abbrev own_passes : (Field → Bool) → Attribute → Row → Bool
+abbrev pub own_passes : (Field → Bool) → Attribute → Row → Bool
 own_passes p a r = sameb the_attribute r.unit.attribute a && list_any p r.fields
 
-by_row : (p : Field → Bool) (a : Attribute) (rs : List Row) → some_cell p a rs ≡ list_any (own_passes p a) rs
-by_row p a [] = refl
-by_row p a (r ∷ rs) = elim (cases_Bool (sameb the_attribute r.unit.attribute a)) [
-  | inl t ↦ rw t (ap (λ b. list_any p r.fields || b) (by_row p a rs))
-  | inr u ↦ rw u (by_row p a rs)
+pub cell_by_row : (p : Field → Bool) (a : Attribute) (rs : List Row) → some_cell p a rs ≡ list_any (own_passes p a) rs
+cell_by_row p a [] = refl
+cell_by_row p a (r ∷ rs) = elim (cases_Bool (sameb the_attribute r.unit.attribute a)) [
+  | inl t ↦ rw t (ap (λ b. list_any p r.fields || b) (cell_by_row p a rs))
+  | inr u ↦ rw u (cell_by_row p a rs)
 ]
 
 -- a cell that is left of rows stands in them
@@ -86,7 +94,7 @@ row_kept keeps p a (r ∷ rs) e =
 
 left_stands : (keeps : Test) (p : Field → Bool) (a : Attribute) (rs : List Row) → some_cell p a (restricted keeps rs) ≡ true → some_cell p a rs ≡ true
 left_stands keeps p a rs e =
-    by_row p a rs ∙ row_kept keeps p a rs (any_kept (own_passes p a) has_fields (map (restricted_row keeps) rs) (sym (by_row p a (restricted keeps rs)) ∙ e))
+    cell_by_row p a rs ∙ row_kept keeps p a rs (any_kept (own_passes p a) has_fields (map (restricted_row keeps) rs) (sym (cell_by_row p a (restricted keeps rs)) ∙ e))
 
 -- values of `groups` have no cell of another attribute
 none_own : (p : Field → Bool) (a : Attribute) (base : List ℕ) (gs : List Content) → is_same_attribute Groups a ≡ false → list_any (own_passes p a) (map (membership base) gs) ≡ false
@@ -101,9 +109,9 @@ beside_groups p a base gs rs other e =
     let later : List Row = filter (λ (r : Row). is_gt (unit_cmp r.unit (whole Groups))) rs in
     let passes = own_passes p a in
     let all : (list_any passes before || (list_any passes ms || list_any passes later)) ≡ true
-    = ap (λ b. list_any passes before || b) (sym (list_any-append passes ms later)) ∙ sym (list_any-append passes before (ms ++ later)) ∙ sym (by_row p a (put_values (whole Groups) ms rs)) ∙ e in
+    = ap (λ b. list_any passes before || b) (sym (list_any-append passes ms later)) ∙ sym (list_any-append passes before (ms ++ later)) ∙ sym (cell_by_row p a (put_values (whole Groups) ms rs)) ∙ e in
     let two : (list_any passes before || list_any passes later) ≡ true = rw (none_own p a base gs other) at all in
-    by_row p a rs ∙ both (list_any passes before) (list_any passes later) (list_any passes rs) (any_kept passes _ rs) (any_kept passes _ rs) two
+    cell_by_row p a rs ∙ both (list_any passes before) (list_any passes later) (list_any passes rs) (any_kept passes _ rs) (any_kept passes _ rs) two
   where
     both : (b c d : Bool) → (b ≡ true → d ≡ true) → (c ≡ true → d ≡ true) → (b || c) ≡ true → d ≡ true
     both true c d f g e = f refl
@@ -145,39 +153,39 @@ in_values kind passes l (r ∷ rs) own e = elim (cases_Bool (own_passes (leaf_pa
       elim (cases_Bool (is_eq (unit_cmp r.unit (unit_of l)))) [ inl t ↦ rw t (or_right (value_passes passes l r) _ rest) | inr n ↦ rw n rest ]
 ]
 
--- a value of a leaf that is a unit of its own has one cell
-in_value : (kind : Kind) (passes : Atom → Bool) (l : Leaf) (u : AttributeUnit) (fs : List Field) → is_multi_valued l.attribute ≡ false → u ≡ unit_of l → All (IsSoundField kind u) fs
-    → AllPairs (λ (f g : Field). sub_attribute_number f.leaf.sub_attribute < sub_attribute_number g.leaf.sub_attribute) fs → list_any (leaf_passes passes l) fs ≡ true
-    → (a : Atom) × (atom_in l fs ≡ Some a) × (passes a ≡ true)
-in_value kind passes l u [] single is own rise e = cc
-in_value kind passes l u (f ∷ []) single is own rise e =
-    let leaf : f.leaf ≡ l = one_leaf l f.leaf single ((All-head (IsSoundField kind u) f [] own).0 ∙ is) in
-    let here : is_same_leaf f.leaf l ≡ true = leaf_same f.leaf l leaf in
-    let some : (passes f.atom || false) ≡ true = rw here at e in
-    elim (cases_Bool (passes f.atom)) [ inl t ↦ (f.atom, rw here refl, t) | inr n ↦ absurd (let none : false ≡ true = rw n at some in cc) ]
-in_value kind passes l u (f ∷ g ∷ fs) single is own rise e =
-    let one : f.leaf ≡ l = one_leaf l f.leaf single ((All-head (IsSoundField kind u) f (g ∷ fs) own).0 ∙ is) in
-    let other : g.leaf ≡ l = one_leaf l g.leaf single ((All-head (IsSoundField kind u) g fs (All-tail (IsSoundField kind u) f (g ∷ fs) own)).0 ∙ is) in
-    let same : sub_attribute_number f.leaf.sub_attribute ≡ sub_attribute_number g.leaf.sub_attribute = ap (λ (k : Leaf). sub_attribute_number k.sub_attribute) (one ∙ sym other) in
-    absurd (omega (arith, same, rise zero (suc zero) f (omega arith) (omega arith)))
+-- whether there is an atom that passes
+abbrev pub some_passes : (Atom → Bool) → Option Atom → Bool
+some_passes passes None = false
+some_passes passes (Some a) = passes a
 
-first_passes : (kind : Kind) (passes : Atom → Bool) (l : Leaf) (vs : List Row) → is_multi_valued l.attribute ≡ false → length vs ≤ 1 → All (IsSoundRow kind) vs
-    → All (λ (r : Row). is_eq (unit_cmp r.unit (unit_of l)) ≡ true) vs → list_any (value_passes passes l) vs ≡ true → (a : Atom) × (atom_at l zero vs ≡ Some a) × (passes a ≡ true)
-first_passes kind passes l [] single few own units e = cc
-first_passes kind passes l (r ∷ s ∷ vs) single few own units e = absurd (omega (arith, few))
-first_passes kind passes l (r ∷ []) single few own units e =
-    let sound = All-head (IsSoundRow kind) r [] own in
-    let unit = unit_same r.unit (unit_of l) (All-head (λ (r : Row). is_eq (unit_cmp r.unit (unit_of l)) ≡ true) r [] units) in
-    in_value kind passes l r.unit r.fields single unit sound.own sound.in_order (alone (value_passes passes l r) e)
-  where
-    alone : (b : Bool) → (b || false) ≡ true → b ≡ true
-    alone true e = refl
-    alone false e = e
+-- a leaf has no field behind its place
+none_later : (passes : Atom → Bool) (l : Leaf) (fs : List Field) → All (λ (f : Field). sub_attribute_number l.sub_attribute < sub_attribute_number f.leaf.sub_attribute) fs
+    → list_any (leaf_passes passes l) fs ≡ false
+none_later passes l [] later = refl
+none_later passes l (f ∷ fs) later =
+    let Later : Field → Type 0 = λ g. sub_attribute_number l.sub_attribute < sub_attribute_number g.leaf.sub_attribute in
+    elim (cases_Bool (is_same_leaf f.leaf l)) [
+      | inl t ↦ absurd (let same = ap (λ (k : Leaf). sub_attribute_number k.sub_attribute) (leaf_one f.leaf l t) in omega (arith, same, All-head Later f fs later))
+      | inr n ↦ rw n (none_later passes l fs (All-tail Later f fs later))
+    ]
 
--- what is seen of a resource to pass at a leaf of a single-valued attribute other than `groups` stands there in the resource
-pub seen_stands : (passes : Atom → Bool) (l : Leaf) (v : Viewer) (gs : List Content) (c : Content) → is_multi_valued l.attribute ≡ false → is_same_attribute Groups l.attribute ≡ false
-    → IsPart c → some_atom passes l (rows (with_groups v gs c)) ≡ true → (a : Atom) × (first_at l c ≡ Some a) × (passes a ≡ true)
-seen_stands passes l v gs c single other part e =
+-- so what passes at the leaf is its first atom
+first_passes : (passes : Atom → Bool) (l : Leaf) (fs : List Field) → AllPairs (λ (f g : Field). sub_attribute_number f.leaf.sub_attribute < sub_attribute_number g.leaf.sub_attribute) fs
+    → list_any (leaf_passes passes l) fs ≡ true → some_passes passes (atom_in l fs) ≡ true
+first_passes passes l [] rise e = e
+first_passes passes l (f ∷ fs) rise e = elim (cases_Bool (is_same_leaf f.leaf l)) [
+  | inl t ↦
+      let later : All (λ (g : Field). sub_attribute_number l.sub_attribute < sub_attribute_number g.leaf.sub_attribute) fs
+      = subst (λ (m : Leaf). All (λ (g : Field). sub_attribute_number m.sub_attribute < sub_attribute_number g.leaf.sub_attribute) fs) (leaf_one f.leaf l t) (λ k g lt. rise zero (suc k) g (omega arith) (omega (arith, lt))) in
+      let some : (passes f.atom || list_any (leaf_passes passes l) fs) ≡ true = rw t at e in
+      rw t (sym (or-false (passes f.atom)) ∙ ap (λ b. passes f.atom || b) (sym (none_later passes l fs later)) ∙ some)
+  | inr n ↦ rw n (first_passes passes l fs (λ i j g lt within. rise (suc i) (suc j) g (omega (arith, lt)) (omega (arith, within))) (rw n at e))
+]
+
+-- what is seen of a resource to pass at a leaf of an attribute other than `groups` passes in a value of the resource
+pub seen_in_value : (passes : Atom → Bool) (l : Leaf) (v : Viewer) (gs : List Content) (c : Content) → is_same_attribute Groups l.attribute ≡ false
+    → IsPart c → some_atom passes l (rows (with_groups v gs c)) ≡ true → list_any (λ (r : Row). some_passes passes (atom_in l r.fields)) (values (unit_of l) (rows c)) ≡ true
+seen_in_value passes l v gs c other part e =
     let sound = sound_part c part in
     let p = leaf_passes passes l in
     let listed : List Content = sorted_by id_cmp (filter (lists c.id) (seen v gs)) in
@@ -185,6 +193,26 @@ seen_stands passes l v gs c single other part e =
     = ap (some_cell p l.attribute) (sym (seen_rows v gs c part)) ∙ e in
     let stored : some_cell p l.attribute (rows c) ≡ true = with_stands p l.attribute v.base listed c other (left_stands _ p l.attribute (rows_with (map (membership v.base) listed) c) left) in
     let vs = values (unit_of l) (rows c) in
-    let found = first_passes c.kind passes l vs single (one_value c.kind (unit_of l) (rows c) sound single) (All-filter _ (IsSoundRow c.kind) (rows c) sound.own) (filter_passes _ (rows c))
-    (in_values c.kind passes l (rows c) sound.own (sym (by_row p l.attribute (rows c)) ∙ stored)) in
+    any_weaker (value_passes passes l) (λ (r : Row). some_passes passes (atom_in l r.fields)) vs
+    (All-weaker (IsSoundRow c.kind) (λ (r : Row). value_passes passes l r ≡ true → some_passes passes (atom_in l r.fields) ≡ true) (λ r own. first_passes passes l r.fields own.in_order) vs
+    (All-filter (λ (r : Row). is_eq (unit_cmp r.unit (unit_of l))) (IsSoundRow c.kind) (rows c) sound.own))
+    (in_values c.kind passes l (rows c) sound.own (sym (cell_by_row p l.attribute (rows c)) ∙ stored))
+
+-- the first atom, where there is one value at most
+one_passes : (passes : Atom → Bool) (l : Leaf) (vs : List Row) → length vs ≤ 1 → list_any (λ (r : Row). some_passes passes (atom_in l r.fields)) vs ≡ true
+    → (a : Atom) × (atom_at l zero vs ≡ Some a) × (passes a ≡ true)
+one_passes passes l [] few e = cc
+one_passes passes l (r ∷ s ∷ vs) few e = absurd (omega (arith, few))
+one_passes passes l (r ∷ []) few e = given (atom_in l r.fields) (sym (or-false (some_passes passes (atom_in l r.fields))) ∙ e)
+  where
+    given : (o : Option Atom) → some_passes passes o ≡ true → (a : Atom) × (o ≡ Some a) × (passes a ≡ true)
+    given None e = cc
+    given (Some a) e = (a, refl, e)
+
+-- so what is seen to pass at a leaf of a single-valued attribute stands there in the resource
+pub seen_stands : (passes : Atom → Bool) (l : Leaf) (v : Viewer) (gs : List Content) (c : Content) → is_multi_valued l.attribute ≡ false → is_same_attribute Groups l.attribute ≡ false
+    → IsPart c → some_atom passes l (rows (with_groups v gs c)) ≡ true → (a : Atom) × (first_at l c ≡ Some a) × (passes a ≡ true)
+seen_stands passes l v gs c single other part e =
+    let sound = sound_part c part in
+    let found = one_passes passes l (values (unit_of l) (rows c)) (one_value c.kind (unit_of l) (rows c) sound single) (seen_in_value passes l v gs c other part e) in
     (found.0, get_cell c part sound l 0 ∙ found.1, found.2)
