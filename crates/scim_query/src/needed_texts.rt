@@ -28,7 +28,7 @@ fn text_compared(
 }
 
 /// Returns a text that the leaf must have for the filter to match. `None` unless the filter is
-/// `leaf eq "text"` or a conjunction with that comparison.
+/// `leaf eq "text"`, in the brackets of a value path or not, or a conjunction with such a term.
 fn text_needed(node: &Node, leaf: Leaf) -> Option<&StringLiteral>
     ensures { IfSome result (λ text. (rs : List Row) → truth (view node.now) rs ≡ true
         → spec.has_text leaf text.now rs ≡ true) }
@@ -41,6 +41,7 @@ fn text_needed(node: &Node, leaf: Leaf) -> Option<&StringLiteral>
         Node::Compare(path, operator, literal) => {
             text_compared(path.meant, *operator, literal, leaf)
         }
+        Node::Values(_, inner) => text_needed(inner, leaf),
         _ => None,
     }
 }
@@ -48,7 +49,7 @@ fn text_needed(node: &Node, leaf: Leaf) -> Option<&StringLiteral>
 impl Query {
     /// Returns a text that every matching part has at the leaf.
     /// Texts compare as with `eq` (RFC 7644 section 3.4.2.2). `None` unless the filter is
-    /// `leaf eq "text"` or a conjunction with that comparison.
+    /// `leaf eq "text"`, in the brackets of a value path or not, or a conjunction with such a term.
     pub fn needed_text(&self, leaf: Leaf) -> Option<&StringLiteral>
         ensures { IfSome result (λ text. spec.NeedsText self.now.filter leaf text.now) }
     {
