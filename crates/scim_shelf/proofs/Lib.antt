@@ -6,11 +6,16 @@ pub mod ChangeLemmas
 pub mod CollectionLemmas
 pub mod OwnerLemmas
 pub mod ShowLemmas
+pub mod PassLemmas
+pub mod WindowLemmas
+pub mod KindLemmas
 pub mod LeftLemmas
+pub mod TextLemmas
 pub mod NoteLemmas
 pub mod ValueLemmas
 pub mod NotedLemmas
 pub mod PickLemmas
+pub mod UnderLemmas
 pub mod CopyLemmas
 pub mod CollectLemmas
 pub mod CountLemmas

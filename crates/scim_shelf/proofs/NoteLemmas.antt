@@ -1,43 +1,62 @@
--- Which ids are noted under a value after a change.
-use Rattle.std.proofs.Common.{◌≡◌, refl, sym, ◌∙◌, ap, subst, ℕ, Bool, true, false, ◌&&◌, ◌||◌, cond, List, take, drop}
-use Rattle.std.specs.Prelude.{nat_eq, Option, None, Some, IsSome, String}
-use Rattle.std.specs.declared.alloc.Global.{Global}
-use Rattle.std.specs.Str.{bytes_eq}
-use Rattle.std.specs.Ordering.{nat_cmp}
-use Rattle.std.specs.String.{string_cmp, string_bytes}
-use Rattle.std.specs.Cmp.Lexicographic.{slice_cmp, pointwise, bytes_decides, nat_list_eq_equiv}
-use Rattle.std.specs.List.{list_any}
-use Rattle.std.specs.BTreeMap.{BTreeMap, UpdatesBy, get_by_text}
+-- Which ids are noted under a text after a change.
+use Rattle.std.proofs.Common.{◌≡◌, refl, sym, ◌∙◌, ap, subst, ℕ, ◌+◌, ◌<◌, Bool, true, false, ◌&&◌, ◌||◌, cond, List, length, take, drop, get_or}
+use Rattle.std.specs.Prelude.{Option, None, Some, IsSome}
+use Rattle.std.specs.Ordering.{is_eq}
+use Rattle.std.specs.Cmp.Lexicographic.{bytes_decides}
+use Rattle.std.specs.Map.{lookup}
+use Rattle.std.specs.BTreeMap.{BTreeMap, UpdatesBy, get}
 use Rattle.std.proofs.lemmas.List.{take-append-drop}
-use Rattle.std.proofs.lemmas.List.Folds.{list_any-append}
-use Rattle.std.proofs.lemmas.Map.Text.{btree_map_updates_text, is_eq-slice_cmp}
-use Rattle.scim_shelf.specs.declared.members.Holders.{Holders}
-use Rattle.scim_shelf.specs.Members.{is_same, has_in, is_one_of}
-use Rattle.scim_shelf.proofs.NameLemmas.{by_bool}
+use Rattle.std.proofs.lemmas.List.Folds.{list_any-append, list_any_more}
+use Rattle.std.proofs.lemmas.Map.Text.{is_eq-slice_cmp}
+use Rattle.scim_value.specs.declared.uniqueness.UniqueName.{UniqueName}
+use Rattle.scim_value.specs.contracts.uniqueness.UniqueNameOrd.TheImpl as name_ord
+use Rattle.scim_value.specs.contracts.uniqueness.UniqueNameOrd.TheImpl.Laws as order
+use Rattle.scim_value.specs.Uniqueness.{name_of}
+use Rattle.scim_shelf.specs.declared.text_index.Holders.{Holders}
+use Rattle.scim_shelf.specs.Owners.{is_alike, is_among}
+use Rattle.scim_shelf.specs.TextIndex.{is_same, has_in}
+use Rattle.scim_shelf.proofs.NameLemmas.{by_bool, is_eq-Equal}
+use Rattle.scim_shelf.proofs.OwnerLemmas.{tied_alike, tied_copy}
 
--- the notes, by value
+-- the notes, by text
 abbrev pub Notes : Type 0
-Notes = BTreeMap (String Global) Holders
+Notes = BTreeMap UniqueName Holders
 
--- the notes under one value become these, and no others change
-abbrev pub ChangesAt : List ℕ → Notes → Notes → Option Holders → Type 0
-ChangesAt value old new holders = UpdatesBy string_cmp (λ k. slice_cmp nat_cmp value (string_bytes k)) old new holders
+-- the ids under a text, if any
+abbrev pub held : Notes → UniqueName → Option Holders
+held notes q = get (name_ord.ghosts).cmp notes q
+
+-- the ids under one text become these, and no others change
+abbrev pub ChangesAt : UniqueName → Notes → Notes → Option Holders → Type 0
+ChangesAt text old new holders = (q : UniqueName) → held new q ≡ cond (is_alike text q) holders (held old q)
+
+-- an update at a text, or at a copy of it, changes the ids there
+pub changes_at : (text copy : UniqueName) (old new : Notes) (holders : Option Holders) → name_of copy ≡ name_of text
+    → UpdatesBy (name_ord.ghosts).cmp ((name_ord.ghosts).cmp copy) old new holders → ChangesAt text old new holders
+changes_at text copy old new holders same h q = h.0 q ∙ ap (λ (b : Bool). cond b holders (held old q)) (tied_copy copy text q same)
+
+-- texts that are alike have the same ids
+pub same_holders : (notes : Notes) (n q : UniqueName) → is_alike n q ≡ true → held notes n ≡ held notes q
+same_holders notes n q alike =
+    let tied = is_eq-Equal ((name_ord.ghosts).cmp n q) (tied_alike n q ∙ alike) in
+    λ i. lookup (λ (k : UniqueName). is_eq (order.total-law.congr n q k tied i)) notes.entries
+
+-- an id that is noted under a text, or isn't, is so under each that is alike
+pub noted_alike : (notes : Notes) (n q : UniqueName) (id : List ℕ) (b : Bool) → has_in id (held notes n) ≡ b → is_alike n q ≡ true → has_in id (held notes q) ≡ b
+noted_alike notes n q id b is alike = ap (has_in id) (sym (same_holders notes n q alike)) ∙ is
 
 -- what is found is there
 pub is_there : {X : Type 0} (o : Option X) (x : X) → Some x ≡ o → IsSome o
 is_there o x h = subst IsSome h refl
 
-paired : (same here b old : Bool) → cond same (cond here b old) old ≡ cond (same && here) b old
+paired : (alike here b old : Bool) → cond alike (cond here b old) old ≡ cond (alike && here) b old
 paired true here b old = refl
 paired false here b old = refl
 
--- one more test that some value passes
-pub one_more : (before now here b old : Bool) → cond (now && here) b (cond (before && here) b old) ≡ cond ((before || now) && here) b old
-one_more true true true b old = refl
-one_more true true false b old = refl
-one_more true false true b old = refl
-one_more true false false b old = refl
-one_more false now here b old = refl
+absent : (alike here old : Bool) → (alike ≡ true → old ≡ false) → old ≡ cond (alike && here) false old
+absent true true old none = none refl
+absent true false old none = refl
+absent false here old none = refl
 
 cond_then : (test x y z : Bool) → (test ≡ true → x ≡ y) → cond test x z ≡ cond test y z
 cond_then true x y z h = h refl
@@ -55,49 +74,48 @@ cond_in : (i : List ℕ) (test : Bool) (x y : Option Holders) → has_in i (cond
 cond_in i true x y = refl
 cond_in i false x y = refl
 
-module _ (value : List ℕ) where
-  changed : (old new : Notes) (holders : Option Holders) → ChangesAt value old new holders → (v i : List ℕ)
-      → has_in i (get_by_text new v) ≡ cond (pointwise nat_eq v value) (has_in i holders) (has_in i (get_by_text old v))
-  changed old new holders h v i =
-      ap (has_in i) (btree_map_updates_text value old new holders h v) ∙ cond_in i (bytes_eq value v) holders (get_by_text old v)
-      ∙ ap (λ (b : Bool). cond b (has_in i holders) (has_in i (get_by_text old v))) (nat_list_eq_equiv.symm value v)
+module _ (text : UniqueName) where
+  changed : (old new : Notes) (holders : Option Holders) → ChangesAt text old new holders → (q : UniqueName) (i : List ℕ)
+      → has_in i (held new q) ≡ cond (is_alike text q) (has_in i holders) (has_in i (held old q))
+  changed old new holders h q i = ap (has_in i) (h q) ∙ cond_in i (is_alike text q) holders (held old q)
 
-  -- what is noted under a value becomes this, and under no other value
-  settled : (old : Notes) (found wanted : List ℕ → List ℕ → Bool) (v i : List ℕ)
-      → (found value i ≡ wanted value i)
-      → cond (pointwise nat_eq v value) (found value i) (has_in i (get_by_text old v)) ≡ cond (pointwise nat_eq v value) (wanted v i) (has_in i (get_by_text old v))
-  settled old found wanted v i is =
-      cond_then (pointwise nat_eq v value) (found value i) (wanted v i) (has_in i (get_by_text old v))
-      (λ same. subst (λ (u : List ℕ). found value i ≡ wanted u i) (sym ((bytes_decides v value).0 same)) is)
+  -- one id is noted under a text, or no more
+  pub one_changed : (id : List ℕ) (b : Bool) (old new : Notes) (holders : Option Holders) → ChangesAt text old new holders
+      → ((i : List ℕ) → has_in i holders ≡ cond (is_same id i) b (has_in i (held old text)))
+      → (q : UniqueName) (i : List ℕ) → has_in i (held new q) ≡ cond (is_alike text q && is_same id i) b (has_in i (held old q))
+  one_changed id b old new holders h one q i =
+      let wanted = λ (o : Option Holders). cond (is_same id i) b (has_in i o) in
+      changed old new holders h q i
+      ∙ cond_then (is_alike text q) (has_in i holders) (wanted (held old q)) (has_in i (held old q)) (λ alike. one i ∙ ap wanted (same_holders old text q alike))
+      ∙ paired (is_alike text q) (is_same id i) b (has_in i (held old q))
 
-  -- one id is noted under a value, or no more
-  pub one_changed : (id : List ℕ) (b : Bool) (old new : Notes) (holders : Option Holders) → ChangesAt value old new holders
-      → ((i : List ℕ) → has_in i holders ≡ cond (is_same id i) b (has_in i (get_by_text old value)))
-      → (v i : List ℕ) → has_in i (get_by_text new v) ≡ cond (pointwise nat_eq v value && is_same id i) b (has_in i (get_by_text old v))
-  one_changed id b old new holders h one v i =
-      changed old new holders h v i
-      ∙ settled old (λ u j. has_in j holders) (λ u j. cond (is_same id j) b (has_in j (get_by_text old u))) v i (one i)
-      ∙ paired (pointwise nat_eq v value) (is_same id i) b (has_in i (get_by_text old v))
+  -- the same ids are noted under a text
+  pub none_changed : (old new : Notes) (holders : Option Holders) → ChangesAt text old new holders
+      → ((i : List ℕ) → has_in i holders ≡ has_in i (held old text))
+      → (q : UniqueName) (i : List ℕ) → has_in i (held new q) ≡ has_in i (held old q)
+  none_changed old new holders h none q i =
+      changed old new holders h q i
+      ∙ cond_then (is_alike text q) (has_in i holders) (has_in i (held old q)) (has_in i (held old q)) (λ alike. none i ∙ ap (has_in i) (same_holders old text q alike))
+      ∙ cond_same (is_alike text q) (has_in i (held old q))
 
-  -- the same ids are noted under a value
-  pub none_changed : (old new : Notes) (holders : Option Holders) → ChangesAt value old new holders
-      → ((i : List ℕ) → has_in i holders ≡ has_in i (get_by_text old value))
-      → (v i : List ℕ) → has_in i (get_by_text new v) ≡ has_in i (get_by_text old v)
-  none_changed old new holders h none v i =
-      changed old new holders h v i
-      ∙ settled old (λ u j. has_in j holders) (λ u j. has_in j (get_by_text old u)) v i (none i)
-      ∙ cond_same (pointwise nat_eq v value) (has_in i (get_by_text old v))
+  -- nothing is noted under a text any more, where no id but one was
+  pub last_gone : (id : List ℕ) (old left new : Notes) (holders : Option Holders) → ChangesAt text old left holders → ChangesAt text left new None
+      → ((i : List ℕ) → cond (is_same id i) false (has_in i (held old text)) ≡ false)
+      → (q : UniqueName) (i : List ℕ) → has_in i (held new q) ≡ cond (is_alike text q && is_same id i) false (has_in i (held old q))
+  last_gone id old left new holders g h last q i =
+      let wanted = λ (o : Option Holders). cond (is_same id i) false (has_in i o) in
+      changed left new None h q i
+      ∙ ap (cond (is_alike text q) false) (changed old left holders g q i)
+      ∙ cond_twice (is_alike text q) false (has_in i holders) (has_in i (held old q))
+      ∙ cond_then (is_alike text q) false (wanted (held old q)) (has_in i (held old q)) (λ alike. sym (last i) ∙ ap wanted (same_holders old text q alike))
+      ∙ paired (is_alike text q) (is_same id i) false (has_in i (held old q))
 
-  -- nothing is noted under a value any more, where no id but one was
-  pub last_gone : (id : List ℕ) (old left new : Notes) (holders : Option Holders) → ChangesAt value old left holders → ChangesAt value left new None
-      → ((i : List ℕ) → cond (is_same id i) false (has_in i (get_by_text old value)) ≡ false)
-      → (v i : List ℕ) → has_in i (get_by_text new v) ≡ cond (pointwise nat_eq v value && is_same id i) false (has_in i (get_by_text old v))
-  last_gone id old left new holders g h last v i =
-      changed left new None h v i
-      ∙ ap (cond (pointwise nat_eq v value) false) (changed old left holders g v i)
-      ∙ cond_twice (pointwise nat_eq v value) false (has_in i holders) (has_in i (get_by_text old v))
-      ∙ settled old (λ u j. false) (λ u j. cond (is_same id j) false (has_in j (get_by_text old u))) v i (sym (last i))
-      ∙ paired (pointwise nat_eq v value) (is_same id i) false (has_in i (get_by_text old v))
+  -- no id is noted where nothing is found
+  pub none_found : (id : List ℕ) (old new : Notes) → new ≡ old → None ≡ held old text
+      → (q : UniqueName) (i : List ℕ) → has_in i (held new q) ≡ cond (is_alike text q && is_same id i) false (has_in i (held old q))
+  none_found id old new same none q i =
+      ap (λ (notes : Notes). has_in i (held notes q)) same
+      ∙ absent (is_alike text q) (is_same id i) (has_in i (held old q)) (λ alike. ap (has_in i) (sym (same_holders old text q alike) ∙ sym none))
 
 -- another id stays where one goes
 pub other_stays : (id other i : List ℕ) → is_same other id ≡ false → is_same other i ≡ cond (is_same id i) false (is_same other i)
@@ -110,16 +128,27 @@ other_stays id other i differs =
 pub same_alone : (id i : List ℕ) → is_same id i ≡ cond (is_same id i) true false
 same_alone id i = by_bool (is_same id i) (λ t. rw t refl) (λ f. rw f refl)
 
--- an id that is there already is added
-pub same_added : (id i : List ℕ) → is_same id i ≡ cond (is_same id i) true (is_same id i)
-same_added id i = by_bool (is_same id i) (λ t. rw t refl) (λ f. rw f refl)
+-- a note is changed under one more of some texts
+pub text_more : (q : UniqueName) (texts : List UniqueName) (k : ℕ) (text : UniqueName) (same b old : Bool) → k < length texts → text ≡ get_or texts k text
+    → cond (is_alike text q && same) b (cond (is_among q (take k texts) && same) b old) ≡ cond (is_among q (take (k + 1) texts) && same) b old
+text_more q texts k text same b old inside is =
+    one_more (is_among q (take k texts)) (is_alike text q) same b old
+    ∙ ap (λ (among : Bool). cond (among && same) b old)
+    (ap (λ (n : UniqueName). is_among q (take k texts) || is_alike n q) is ∙ sym (list_any_more (λ (n : UniqueName). is_alike n q) texts k text inside))
+  where
+    one_more : (before now here b old : Bool) → cond (now && here) b (cond (before && here) b old) ≡ cond ((before || now) && here) b old
+    one_more true true true b old = refl
+    one_more true true false b old = refl
+    one_more true false true b old = refl
+    one_more true false false b old = refl
+    one_more false now here b old = refl
 
--- a note under none of some values is under none of the first of them, and stays where these are noted
-pub others_stay : (v : List ℕ) (values : List (List ℕ)) (k : ℕ) (same old : Bool) → (is_one_of v values && same) ≡ false
-    → cond (is_one_of v (take k values) && same) true old ≡ old
-others_stay v values k same old none =
-    go (is_one_of v (take k values)) (is_one_of v (drop k values)) (is_one_of v values) same
-    (sym (list_any-append (pointwise nat_eq v) (take k values) (drop k values)) ∙ ap (list_any (pointwise nat_eq v)) (take-append-drop k values)) none
+-- a note under none of some texts is under none of the first of them, and stays where these are noted
+pub others_stay : (q : UniqueName) (texts : List UniqueName) (k : ℕ) (same old : Bool) → (is_among q texts && same) ≡ false
+    → cond (is_among q (take k texts) && same) true old ≡ old
+others_stay q texts k same old none =
+    go (is_among q (take k texts)) (is_among q (drop k texts)) (is_among q texts) same
+    (sym (list_any-append (λ (n : UniqueName). is_alike n q) (take k texts) (drop k texts)) ∙ ap (is_among q) (take-append-drop k texts)) none
   where
     go : (first rest all same : Bool) → (first || rest) ≡ all → (all && same) ≡ false → cond (first && same) true old ≡ old
     go true rest true true is h = cc

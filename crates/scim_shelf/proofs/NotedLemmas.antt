@@ -9,9 +9,12 @@ use Rattle.std.proofs.lemmas.Map.Lookups.{exact_bytes}
 use Rattle.std.proofs.lemmas.Map.Text.{is_eq-slice_cmp}
 use Rattle.scim_cell.specs.Content.{Content}
 use Rattle.scim_cell.specs.Order.{id_cmp}
-use Rattle.scim_shelf.specs.declared.members.Members.{Members as Kept}
-use Rattle.scim_shelf.specs.Stores.{AreKeyed, is_group_with, keep, without}
-use Rattle.scim_shelf.specs.Members.{is_same, is_noted, is_one_of, is_group_in, IsUnnoted, HasSameNotes}
+use Rattle.scim_value.specs.declared.uniqueness.UniqueName.{UniqueName}
+use Rattle.scim_shelf.specs.declared.text_index.TextIndex.{TextIndex as Kept}
+use Rattle.scim_shelf.specs.Stores.{AreKeyed, keep, without}
+use Rattle.scim_shelf.specs.Owners.{is_among}
+use Rattle.scim_shelf.specs.IndexedTexts.{is_under, is_under_in}
+use Rattle.scim_shelf.specs.TextIndex.{is_same, is_noted, IsUnnoted, HasSameNotes}
 use Rattle.scim_shelf.specs.Indexed.{has_id}
 use Rattle.scim_shelf.proofs.PlaceLemmas.{AreAbove, by_order, above_lower, keep_less, keep_equal, keep_greater, without_less, without_equal, without_greater}
 use Rattle.scim_shelf.proofs.StoreLemmas.{keyed_above, keyed_tail}
@@ -110,23 +113,23 @@ not_is : (b : Bool) → not b ≡ true → b ≡ false
 not_is true h = cc
 not_is false h = refl
 
--- the values that come of a resource aren't noted yet
-pub come_unnoted : (old : Kept) (values : List (List ℕ)) (c : Content) (cs : List Content)
-    → ((v i : List ℕ) → is_noted old v i ≡ is_group_in v (find (has_id i) cs))
-    → ((v : List ℕ) → is_one_of v values ≡ (is_group_with v c && not (is_group_in v (find (has_id c.id) cs)))) → IsUnnoted old values c.id
-come_unnoted old values c cs noted come v among =
-    noted v c.id
-    ∙ not_is (is_group_in v (find (has_id c.id) cs)) (and_right (is_group_with v c) (not (is_group_in v (find (has_id c.id) cs))) (sym (come v) ∙ among))
+-- the texts that come of a resource aren't noted yet
+pub come_unnoted : (old : Kept) (texts : List UniqueName) (c : Content) (cs : List Content)
+    → ((q : UniqueName) (i : List ℕ) → is_noted old q i ≡ is_under_in q (find (has_id i) cs))
+    → ((q : UniqueName) → is_among q texts ≡ (is_under q c && not (is_under_in q (find (has_id c.id) cs)))) → IsUnnoted old texts c.id
+come_unnoted old texts c cs noted come q among =
+    noted q c.id
+    ∙ not_is (is_under_in q (find (has_id c.id) cs)) (and_right (is_under q c) (not (is_under_in q (find (has_id c.id) cs))) (sym (come q) ∙ among))
 
 -- where notes are let go that weren't there, those that stay are as they were
-pub taken_back : (old mid new : Kept) (values : List (List ℕ)) (id : List ℕ) → IsUnnoted old values id
-    → ((v i : List ℕ) → (is_one_of v values && is_same id i) ≡ false → is_noted mid v i ≡ is_noted old v i)
-    → ((v i : List ℕ) → is_noted new v i ≡ cond (is_one_of v values && is_same id i) false (is_noted mid v i)) → HasSameNotes old new
-taken_back old mid new values id unnoted others left v i = left v i ∙ by_bool (is_one_of v values && is_same id i)
+pub taken_back : (old mid new : Kept) (texts : List UniqueName) (id : List ℕ) → IsUnnoted old texts id
+    → ((q : UniqueName) (i : List ℕ) → (is_among q texts && is_same id i) ≡ false → is_noted mid q i ≡ is_noted old q i)
+    → ((q : UniqueName) (i : List ℕ) → is_noted new q i ≡ cond (is_among q texts && is_same id i) false (is_noted mid q i)) → HasSameNotes old new
+taken_back old mid new texts id unnoted others left q i = left q i ∙ by_bool (is_among q texts && is_same id i)
     (λ t.
-    let same : id ≡ i = same_id id i (and_right (is_one_of v values) (is_same id i) t) in
-    rw t (sym (unnoted v (and_left (is_one_of v values) (is_same id i) t)) ∙ ap (is_noted old v) same))
-    (λ f. rw f (others v i f))
+    let same : id ≡ i = same_id id i (and_right (is_among q texts) (is_same id i) t) in
+    rw t (sym (unnoted q (and_left (is_among q texts) (is_same id i) t)) ∙ ap (is_noted old q) same))
+    (λ f. rw f (others q i f))
   where
     and_left : (a b : Bool) → (a && b) ≡ true → a ≡ true
     and_left true b h = refl
@@ -140,24 +143,24 @@ changed_note false true = refl
 changed_note false false = refl
 
 -- the notes when a resource is kept: those of it that come, and without those that go
-pub noted_keep : (old mid new : Kept) (v i : List ℕ) (c : Content) (cs : List Content) → AreKeyed cs
-    → ((j : List ℕ) → is_noted old v j ≡ is_group_in v (find (has_id j) cs))
-    → is_noted mid v i ≡ cond ((is_group_with v c && not (is_group_in v (find (has_id c.id) cs))) && is_same c.id i) true (is_noted old v i)
-    → is_noted new v i ≡ cond ((is_group_in v (find (has_id c.id) cs) && not (is_group_with v c)) && is_same c.id i) false (is_noted mid v i)
-    → is_noted new v i ≡ is_group_in v (find (has_id i) (keep c cs))
-noted_keep old mid new v i c cs keyed was come gone =
+pub noted_keep : (old mid new : Kept) (q : UniqueName) (i : List ℕ) (c : Content) (cs : List Content) → AreKeyed cs
+    → ((j : List ℕ) → is_noted old q j ≡ is_under_in q (find (has_id j) cs))
+    → is_noted mid q i ≡ cond ((is_under q c && not (is_under_in q (find (has_id c.id) cs))) && is_same c.id i) true (is_noted old q i)
+    → is_noted new q i ≡ cond ((is_under_in q (find (has_id c.id) cs) && not (is_under q c)) && is_same c.id i) false (is_noted mid q i)
+    → is_noted new q i ≡ is_under_in q (find (has_id i) (keep c cs))
+noted_keep old mid new q i c cs keyed was come gone =
     gone ∙ ap (cond (goes && is_same c.id i) false) (come ∙ ap (cond (comes && is_same c.id i) true) (was i))
-    ∙ by_bool (is_same c.id i) here elsewhere ∙ ap (is_group_in v) (sym (found_keep i c cs keyed))
+    ∙ by_bool (is_same c.id i) here elsewhere ∙ ap (is_under_in q) (sym (found_keep i c cs keyed))
   where
     goes : Bool
-    goes = is_group_in v (find (has_id c.id) cs) && not (is_group_with v c)
+    goes = is_under_in q (find (has_id c.id) cs) && not (is_under q c)
 
     comes : Bool
-    comes = is_group_with v c && not (is_group_in v (find (has_id c.id) cs))
+    comes = is_under q c && not (is_under_in q (find (has_id c.id) cs))
 
     Wanted : Type 0
-    Wanted = cond (goes && is_same c.id i) false (cond (comes && is_same c.id i) true (is_group_in v (find (has_id i) cs)))
-        ≡ is_group_in v (cond (has_id i c) (Some c) (find (has_id i) cs))
+    Wanted = cond (goes && is_same c.id i) false (cond (comes && is_same c.id i) true (is_under_in q (find (has_id i) cs)))
+        ≡ is_under_in q (cond (has_id i c) (Some c) (find (has_id i) cs))
 
     and_true : (b : Bool) → (b && true) ≡ b
     and_true true = refl
@@ -168,25 +171,25 @@ noted_keep old mid new v i c cs keyed was come gone =
         let own : has_id i c ≡ true = same_flips i c.id ∙ t in
         let same : i ≡ c.id = same_id i c.id own in
         rw (t, own)
-        ((λ k. cond (and_true goes k) false (cond (and_true comes k) true (is_group_in v (find (has_id (same k)) cs))))
-        ∙ changed_note (is_group_in v (find (has_id c.id) cs)) (is_group_with v c))
+        ((λ k. cond (and_true goes k) false (cond (and_true comes k) true (is_under_in q (find (has_id (same k)) cs))))
+        ∙ changed_note (is_under_in q (find (has_id c.id) cs)) (is_under q c))
 
     elsewhere : is_same c.id i ≡ false → Wanted
     elsewhere f =
         let other : has_id i c ≡ false = same_flips i c.id ∙ f in
-        rw (f, other) (λ k. cond (and_false goes k) false (cond (and_false comes k) true (is_group_in v (find (has_id i) cs))))
+        rw (f, other) (λ k. cond (and_false goes k) false (cond (and_false comes k) true (is_under_in q (find (has_id i) cs))))
 
 -- the notes when a resource goes, of which all go that it had
-pub noted_without : (old new : Kept) (v i id : List ℕ) (cs : List Content) → AreKeyed cs
-    → is_noted old v i ≡ is_group_in v (find (has_id i) cs)
-    → is_noted new v i ≡ cond (is_group_in v (find (has_id id) cs) && is_same id i) false (is_noted old v i)
-    → is_noted new v i ≡ is_group_in v (find (has_id i) (without id cs))
-noted_without old new v i id cs keyed was gone =
-    gone ∙ ap (cond (is_group_in v (find (has_id id) cs) && is_same id i) false) was
-    ∙ by_bool (is_same id i) here elsewhere ∙ ap (is_group_in v) (sym (found_without i id cs keyed))
+pub noted_without : (old new : Kept) (q : UniqueName) (i id : List ℕ) (cs : List Content) → AreKeyed cs
+    → is_noted old q i ≡ is_under_in q (find (has_id i) cs)
+    → is_noted new q i ≡ cond (is_under_in q (find (has_id id) cs) && is_same id i) false (is_noted old q i)
+    → is_noted new q i ≡ is_under_in q (find (has_id i) (without id cs))
+noted_without old new q i id cs keyed was gone =
+    gone ∙ ap (cond (is_under_in q (find (has_id id) cs) && is_same id i) false) was
+    ∙ by_bool (is_same id i) here elsewhere ∙ ap (is_under_in q) (sym (found_without i id cs keyed))
   where
     Wanted : Type 0
-    Wanted = cond (is_group_in v (find (has_id id) cs) && is_same id i) false (is_group_in v (find (has_id i) cs)) ≡ is_group_in v (cond (is_same i id) None (find (has_id i) cs))
+    Wanted = cond (is_under_in q (find (has_id id) cs) && is_same id i) false (is_under_in q (find (has_id i) cs)) ≡ is_under_in q (cond (is_same i id) None (find (has_id i) cs))
 
     nothing : (b : Bool) → cond (b && true) false b ≡ false
     nothing true = refl
@@ -196,10 +199,10 @@ noted_without old new v i id cs keyed was gone =
     here t =
         let own : is_same i id ≡ true = same_flips i id ∙ t in
         rw (t, own)
-        ((λ k. cond (is_group_in v (find (has_id id) cs) && true) false (is_group_in v (find (has_id (same_id i id own k)) cs)))
-        ∙ nothing (is_group_in v (find (has_id id) cs)))
+        ((λ k. cond (is_under_in q (find (has_id id) cs) && true) false (is_under_in q (find (has_id (same_id i id own k)) cs)))
+        ∙ nothing (is_under_in q (find (has_id id) cs)))
 
     elsewhere : is_same id i ≡ false → Wanted
     elsewhere f =
         let other : is_same i id ≡ false = same_flips i id ∙ f in
-        rw (f, other) (λ k. cond (and_false (is_group_in v (find (has_id id) cs)) k) false (is_group_in v (find (has_id i) cs)))
+        rw (f, other) (λ k. cond (and_false (is_under_in q (find (has_id id) cs)) k) false (is_under_in q (find (has_id i) cs)))

@@ -18,7 +18,7 @@ use Rattle.scim_shelf.specs.declared.collections.Collection.{Collection}
 use Rattle.scim_shelf.specs.declared.owners.Owners.{Owners}
 use Rattle.scim_shelf.specs.Collections.{IsCollection}
 use Rattle.scim_shelf.specs.Stores.{is_same_name, has_name}
-use Rattle.scim_shelf.specs.Members.{HasSameNotes}
+use Rattle.scim_shelf.specs.TextIndex.{HasSameNotes}
 use Rattle.scim_shelf.specs.Owners.{is_alike, is_among, owner, AreUnowned, HasSameOwners}
 use Rattle.scim_shelf.specs.Indexed.{names_of, has_in}
 use Rattle.scim_shelf.proofs.NameLemmas.{by_bool, is_eq-Equal, is_same_name-Decides, is_same_name-flips, apart_names}
@@ -123,13 +123,14 @@ owners_back old mid new names unowned others left q =
     left q ∙ by_bool (is_among q names) (λ t. rw t (sym (unowned q t))) (λ f. rw f (others q f))
 
 -- a collection with the resources, the owners and the notes of another
-pub same_collection : (cs : List Content) (old new : Collection) → new.by_id.entries ≡ old.by_id.entries
-    → HasSameOwners old.owners new.owners → HasSameNotes old.members new.members → IsCollection cs old → IsCollection cs new
-same_collection cs old new entries owned noted h = record {
+pub same_collection : (cs : List Content) (old new : Collection) → new.by_id.entries ≡ old.by_id.entries → new.groups ≡ old.groups
+    → HasSameOwners old.owners new.owners → HasSameNotes old.texts new.texts → IsCollection cs old → IsCollection cs new
+same_collection cs old new entries groups owned noted h = record {
   resources = entries ∙ h.resources;
   keyed_apart = h.keyed_apart;
+  groups = groups ∙ h.groups;
   owners = λ q. owned q ∙ h.owners q;
-  noted = λ v i. noted v i ∙ h.noted v i;
+  noted = λ q i. noted q i ∙ h.noted q i;
 }
 
 -- a name of a resource that has a place has no owner, or the resource's id

@@ -1,5 +1,5 @@
 -- The resources with some ids, found by the ids.
-use Rattle.std.proofs.Common.{◌≡◌, refl, sym, ◌∙◌, ap, subst, ℕ, Bool, false, List, [], ◌∷◌, ◌++◌}
+use Rattle.std.proofs.Common.{◌≡◌, refl, sym, ◌∙◌, ap, subst, ℕ, Bool, false, List, [], ◌∷◌, ◌++◌, arith}
 use Rattle.std.specs.Prelude.{All, find, filter, Option, None, Some}
 use Rattle.std.specs.Ordering.{nat_cmp}
 use Rattle.std.specs.declared.cmp.Ordering.TheVariants.{Less, Equal, Greater}
@@ -13,12 +13,16 @@ use Rattle.std.proofs.lemmas.List.Elements.{All-nil, All-cons, All-head, All-tai
 use Rattle.std.proofs.lemmas.Map.Keys.{sorted_head, sorted_tail}
 use Rattle.std.proofs.lemmas.Map.Lookups.{exact_bytes}
 use Rattle.scim_cell.specs.Content.{Content}
-use Rattle.scim_shelf.specs.Stores.{AreKeyed, is_group_with}
+use Rattle.scim_schema.specs.declared.Kind.{Kind}
+use Rattle.scim_cell.specs.Kinds.{is_of, of_kind}
+use Rattle.scim_value.specs.declared.uniqueness.UniqueName.{UniqueName}
+use Rattle.scim_shelf.specs.Stores.{AreKeyed}
 use Rattle.scim_shelf.specs.declared.collections.Collection.{Collection}
-use Rattle.scim_shelf.specs.declared.members.Holders.{Holders}
-use Rattle.scim_shelf.specs.declared.members.Holders.TheVariants.{One, Several}
+use Rattle.scim_shelf.specs.declared.text_index.Holders.{Holders}
+use Rattle.scim_shelf.specs.declared.text_index.Holders.TheVariants.{One, Several}
 use Rattle.scim_shelf.specs.Collections.{IsCollection}
-use Rattle.scim_shelf.specs.Members.{is_same, holders_at, has_in, is_group_in}
+use Rattle.scim_shelf.specs.IndexedTexts.{is_under, is_under_in}
+use Rattle.scim_shelf.specs.TextIndex.{is_same, holders_at, has_in}
 use Rattle.scim_shelf.specs.Indexed.{has_id, before, picked}
 use Rattle.scim_shelf.proofs.PlaceLemmas.{AreAbove, by_order, reversed, above_lower}
 use Rattle.scim_shelf.proofs.StoreLemmas.{All-both, keyed_above, keyed_tail}
@@ -48,12 +52,17 @@ unfolding IsStrictlySortedBy
 one_ascends id = (tt, tt)
 
 -- tests that agree on some resources leave the same of them
-filter_same : (p q : Content → Bool) (cs : List Content) → All (λ c. p c ≡ q c) cs → filter p cs ≡ filter q cs
+pub filter_same : (p q : Content → Bool) (cs : List Content) → All (λ c. p c ≡ q c) cs → filter p cs ≡ filter q cs
 filter_same p q [] all = refl
 filter_same p q (c ∷ cs) all =
     let here : p c ≡ q c = All-head (λ d. p d ≡ q d) c cs all in
     let rest : filter p cs ≡ filter q cs = filter_same p q cs (All-tail (λ d. p d ≡ q d) c cs all) in
     by_bool (q c) (λ t. rw (here ∙ t, t) (ap (λ (xs : List Content). c ∷ xs) rest)) (λ f. rw (here ∙ f, f) rest)
+
+-- two tests may be made in either order
+pub filter_swap : {X : Type 0} (p q : X → Bool) (xs : List X) → filter q (filter p xs) ≡ filter p (filter q xs)
+filter_swap p q [] = refl
+filter_swap p q (x ∷ xs) = grind (arith, filter_swap p q xs)
 
 ids_lower : (x y : List ℕ) (ids : List (List ℕ)) → slice_cmp nat_cmp x y ≡ Less → IdsAbove y ids → IdsAbove x ids
 ids_lower x y [] h up = tt
@@ -129,30 +138,34 @@ found_own (c ∷ cs) keyed =
     (λ d less found. rw (reversed c.id d.id Less less) found) cs
     (All-from_recursion (λ d. slice_cmp nat_cmp c.id d.id ≡ Less) cs (keyed_above c cs keyed)) (found_own cs (keyed_tail c cs keyed)))
 
--- where just the ids of the groups that list a value pass a test, the resources whose ids pass it are those groups
-noted_groups : (value : List ℕ) (test : List ℕ → Bool) (cs : List Content) → AreKeyed cs → ((id : List ℕ) → test id ≡ is_group_in value (find (has_id id) cs))
-    → filter (λ c. test c.id) cs ≡ filter (is_group_with value) cs
-noted_groups value test cs keyed noted =
-    filter_same (λ c. test c.id) (is_group_with value) cs
-    (All-weaker (λ (c : Content). find (has_id c.id) cs ≡ Some c) (λ c. test c.id ≡ is_group_with value c) (λ c found. noted c.id ∙ ap (is_group_in value) found) cs (found_own cs keyed))
+-- where just the ids of the resources that pass a test pass another, the resources of the kind whose ids pass it are those
+noted_resources : (kind : Kind) (passes : Content → Bool) (test : List ℕ → Bool) (cs : List Content) → AreKeyed cs
+    → ((id : List ℕ) (c : Content) → find (has_id id) cs ≡ Some c → test id ≡ passes c)
+    → of_kind kind (filter (λ c. test c.id) cs) ≡ filter passes (of_kind kind cs)
+noted_resources kind passes test cs keyed noted =
+    ap (of_kind kind)
+    (filter_same (λ c. test c.id) passes cs
+    (All-weaker (λ (c : Content). find (has_id c.id) cs ≡ Some c) (λ c. test c.id ≡ passes c) (λ c found. noted c.id c found) cs (found_own cs keyed)))
+    ∙ filter_swap passes (is_of kind) cs
 
-module _ (value : List ℕ) (cs : List Content) (collection : Collection) (is : IsCollection cs collection) where
+module _ (q : UniqueName) (kind : Kind) (cs : List Content) (collection : Collection) (is : IsCollection cs collection) where
   -- an id is noted where it is among those that were found
-  noted : (holders : Option Holders) → holders_at collection.members value ≡ holders → (id : List ℕ) → has_in id holders ≡ is_group_in value (find (has_id id) cs)
-  noted holders found id = ap (has_in id) (sym found) ∙ is.noted value id
+  noted : (holders : Option Holders) → holders_at collection.texts q ≡ holders → (id : List ℕ) (c : Content) → find (has_id id) cs ≡ Some c → has_in id holders ≡ is_under q c
+  noted holders found id c own = ap (has_in id) (sym found) ∙ is.noted q id ∙ ap (is_under_in q) own
 
-  -- the groups that list a value, where one id is noted under it, several are, or none is
-  pub groups_of_one : (id : List ℕ) → holders_at collection.members value ≡ Some (One id) → before (find (has_id id) cs) [] ≡ filter (is_group_with value) cs
-  groups_of_one id found =
-      picked_all cs is.keyed_apart (id ∷ []) (one_ascends id)
-      ∙ noted_groups value (λ i. is_listed i (id ∷ [])) cs is.keyed_apart (λ i. or_false (is_same i id) ∙ same_flips i id ∙ noted (Some (One id)) found i)
+  -- the resources of the kind that are indexed under a text, where one id is noted under it, several are, or none is
+  pub indexed_one : (id : List ℕ) → holders_at collection.texts q ≡ Some (One id) → of_kind kind (before (find (has_id id) cs) []) ≡ filter (is_under q) (of_kind kind cs)
+  indexed_one id found =
+      ap (of_kind kind) (picked_all cs is.keyed_apart (id ∷ []) (one_ascends id))
+      ∙ noted_resources kind (is_under q) (λ i. is_listed i (id ∷ [])) cs is.keyed_apart (λ i c own. or_false (is_same i id) ∙ same_flips i id ∙ noted (Some (One id)) found i c own)
 
-  pub groups_of_several : (ids : BTreeSet (List ℕ)) → holders_at collection.members value ≡ Some (Several ids)
-      → filter (λ c. contains (slice_cmp nat_cmp) ids c.id) cs ≡ filter (is_group_with value) cs
-  groups_of_several ids found = noted_groups value (contains (slice_cmp nat_cmp) ids) cs is.keyed_apart (noted (Some (Several ids)) found)
+  pub indexed_several : (ids : BTreeSet (List ℕ)) → holders_at collection.texts q ≡ Some (Several ids)
+      → of_kind kind (filter (λ c. contains (slice_cmp nat_cmp) ids c.id) cs) ≡ filter (is_under q) (of_kind kind cs)
+  indexed_several ids found = noted_resources kind (is_under q) (contains (slice_cmp nat_cmp) ids) cs is.keyed_apart (noted (Some (Several ids)) found)
 
-  pub groups_of_none : holders_at collection.members value ≡ None → [] ≡ filter (is_group_with value) cs
-  groups_of_none found = none_listed cs ∙ noted_groups value (λ i. false) cs is.keyed_apart (noted None found)
+  pub indexed_none : holders_at collection.texts q ≡ None → [] ≡ filter (is_under q) (of_kind kind cs)
+  indexed_none found =
+      ap (of_kind kind) (none_listed cs) ∙ noted_resources kind (is_under q) (λ i. false) cs is.keyed_apart (noted None found)
 
 -- one more id picks the resource with it, if there is one
 pub picked_push : (cs : List Content) (ids : List (List ℕ)) (id : List ℕ) → picked cs (ids ++ id ∷ []) ≡ picked cs ids ++ before (find (has_id id) cs) []

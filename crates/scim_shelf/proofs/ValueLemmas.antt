@@ -1,15 +1,25 @@
--- The values of one more member.
-use Rattle.std.proofs.Common.{◌≡◌, refl, sym, ◌∙◌, ap, subst, ℕ, ◌+◌, ◌<◌, Bool, true, false, ◌&&◌, ◌||◌, not, cond, List, [], ◌∷◌, ◌++◌, length, take, drop, ◌-◌, get_or, arith}
-use Rattle.std.specs.Prelude.{nat_eq, Option, None, Some}
+-- The values of members and the texts of values.
+use Rattle.std.proofs.Common.{◌≡◌, refl, sym, ◌∙◌, ap, ℕ, ◌+◌, ◌<◌, ◌≤◌, Bool, true, false, ◌&&◌, ◌||◌, not, cond, List, length, take, drop, ◌-◌, get_or, arith}
+use Rattle.std.specs.Prelude.{Option, string_bytes}
+use Rattle.std.specs.Cmp.{decided}
 use Rattle.std.specs.List.{list_any}
-use Rattle.std.specs.Cmp.Lexicographic.{pointwise, bytes_decides}
 use Rattle.std.proofs.lemmas.List.{length-drop, take_all, take-append-drop}
 use Rattle.std.proofs.lemmas.List.Folds.{list_any-append, list_any_more}
-use Rattle.scim_cell.specs.declared.atoms.Atom.{Atom}
-use Rattle.scim_cell.specs.declared.atoms.Atom.TheVariants.{Text, Truth, Moment}
-use Rattle.scim_cell.specs.Rows.{Row}
+use Rattle.scim_schema.specs.declared.Leaf.{Leaf}
+use Rattle.scim_schema.specs.IndexedLeaves.{indexed_leaves}
+use Rattle.scim_schema.specs.Units.{is_same_leaf}
+use Rattle.scim_schema.proofs.Facts.{is_same_leaf-Decides}
+use Rattle.scim_cell.specs.Content.{Content}
+use Rattle.scim_cell.specs.Rows.{Row, atom_in}
 use Rattle.scim_value.specs.Members.{is_text}
-use Rattle.scim_shelf.specs.Members.{is_found, is_one_of, value_in, is_value_of}
+use Rattle.scim_value.specs.Uniqueness.{Name}
+use Rattle.scim_value.specs.declared.uniqueness.UniqueName.{UniqueName}
+use Rattle.scim_shelf.specs.Members.{is_found, value_in, is_value_of}
+use Rattle.scim_shelf.specs.Stores.{is_compared, has_text, has_text_in}
+use Rattle.scim_shelf.specs.Owners.{is_alike}
+use Rattle.scim_shelf.specs.IndexedTexts.{is_indexed, is_under_at, is_under_at_in, is_under, is_under_in}
+use Rattle.scim_shelf.proofs.NameLemmas.{by_bool}
+use Rattle.scim_shelf.proofs.OwnerLemmas.{alike_named}
 
 -- the values of members with one more, of which the value was found, if it has one
 pub value_more : (v : List ℕ) (members : List Row) (k : ℕ) (member : Row) (found : Option (List ℕ)) → k < length members → member ≡ get_or members k member
@@ -29,64 +39,83 @@ pub or_false : (b : Bool) → (b || false) ≡ b
 or_false true = refl
 or_false false = refl
 
--- a test of one value holds of an equal one
-same_test : (test : List ℕ → Bool) (u v : List ℕ) (b : Bool) → test u ≡ b → pointwise nat_eq v u ≡ true → test v ≡ b
-same_test test u v b h same = subst (λ (x : List ℕ). test x ≡ b) (sym ((bytes_decides v u).0 same)) h
-
-pushed : (before now listed : Bool) → (now ≡ true → listed ≡ false) → ((before && not listed) || (now || false)) ≡ ((before || now) && not listed)
-pushed true true true h = let nothing : true ≡ false = h refl in cc
-pushed true true false h = refl
-pushed true false true h = refl
-pushed true false false h = refl
-pushed false true true h = let nothing : true ≡ false = h refl in cc
-pushed false true false h = refl
-pushed false false true h = refl
-pushed false false false h = refl
-
-skipped : (before now listed : Bool) → (now ≡ true → listed ≡ true) → (before && not listed) ≡ ((before || now) && not listed)
-skipped true now listed h = refl
-skipped false true true h = refl
-skipped false true false h = let nothing : false ≡ true = h refl in cc
-skipped false false listed h = refl
-
--- one more value is taken, since it fails a test
-pub taken_more : (v u : List ℕ) (taken : List (List ℕ)) (before : Bool) (test : List ℕ → Bool) → is_one_of v taken ≡ (before && not (test v))
-    → test u ≡ false → is_one_of v (taken ++ u ∷ []) ≡ ((before || pointwise nat_eq v u) && not (test v))
-taken_more v u taken before test so_far fails =
-    list_any-append (pointwise nat_eq v) taken (u ∷ []) ∙ ap (λ (b : Bool). b || (pointwise nat_eq v u || false)) so_far
-    ∙ pushed before (pointwise nat_eq v u) (test v) (same_test test u v false fails)
-
--- or isn't, since it passes
-pub taken_same : (v u : List ℕ) (taken : List (List ℕ)) (before : Bool) (test : List ℕ → Bool) → is_one_of v taken ≡ (before && not (test v))
-    → test u ≡ true → is_one_of v taken ≡ ((before || pointwise nat_eq v u) && not (test v))
-taken_same v u taken before test so_far passes = so_far ∙ skipped before (pointwise nat_eq v u) (test v) (same_test test u v true passes)
-
--- two members have the same value, where one was found to have it and the other to be it
-pub same_value : (u : List ℕ) (one other : Option Atom) → ((v : List ℕ) → is_text v one ≡ pointwise nat_eq v u) → is_text u other ≡ true
-    → (v : List ℕ) → is_text v one ≡ is_text v other
-same_value u one (Some (Text t)) found h v = found v ∙ ap (pointwise nat_eq v) ((bytes_decides u t).0 h)
-same_value u one (Some (Truth b)) found h v = cc
-same_value u one (Some (Moment m)) found h v = cc
-same_value u one None found h v = cc
-
 or_shared : (a b c : Bool) → (b || (a || c)) ≡ ((a || b) || (a || c))
 or_shared true true c = refl
 or_shared true false c = refl
 or_shared false true c = refl
 or_shared false false c = refl
 
--- what members list beyond others is listed by those that follow the first ones, where these have the values of the others' first
-pub beyond_shared : (v : List ℕ) (members others : List Row) (k : ℕ) → is_value_of v (take k others) ≡ is_value_of v (take k members)
-    → (is_value_of v (take (length members - k) (drop k members)) || is_value_of v others) ≡ (is_value_of v members || is_value_of v others)
-beyond_shared v members others k same =
-    let test = λ (m : Row). is_text v (value_in m) in
-    let rest : take (length members - k) (drop k members) ≡ drop k members =
-    take_all (length members - k) (drop k members) (omega (arith, length-drop k members)) in
-    let mine : (is_value_of v (take k members) || is_value_of v (drop k members)) ≡ is_value_of v members =
-    sym (list_any-append test (take k members) (drop k members)) ∙ ap (list_any test) (take-append-drop k members) in
-    let theirs : (is_value_of v (take k members) || is_value_of v (drop k others)) ≡ is_value_of v others =
-    ap (λ (b : Bool). b || is_value_of v (drop k others)) (sym same)
-    ∙ sym (list_any-append test (take k others) (drop k others)) ∙ ap (list_any test) (take-append-drop k others) in
-    (λ i. list_any test (rest i) || sym theirs i)
-    ∙ or_shared (is_value_of v (take k members)) (is_value_of v (drop k members)) (is_value_of v (drop k others))
+-- where the first k of two lists of values have the same texts, what the others lack are texts of the values after k
+pub beyond_shared : (leaf : Leaf) (t : List ℕ) (vs others : List Row) (k : ℕ) → has_text_in leaf t (take k others) ≡ has_text_in leaf t (take k vs)
+    → (has_text_in leaf t (take (length vs - k) (drop k vs)) || has_text_in leaf t others) ≡ (has_text_in leaf t vs || has_text_in leaf t others)
+beyond_shared leaf t vs others k same =
+    let has = has_text_in leaf t in
+    let test = λ (r : Row). is_compared leaf t (atom_in leaf r.fields) in
+    let rest : take (length vs - k) (drop k vs) ≡ drop k vs =
+    take_all (length vs - k) (drop k vs) (omega (arith, length-drop k vs)) in
+    let mine : (has (take k vs) || has (drop k vs)) ≡ has vs =
+    sym (list_any-append test (take k vs) (drop k vs)) ∙ ap has (take-append-drop k vs) in
+    let theirs : (has (take k vs) || has (drop k others)) ≡ has others =
+    ap (λ (b : Bool). b || has (drop k others)) (sym same)
+    ∙ sym (list_any-append test (take k others) (drop k others)) ∙ ap has (take-append-drop k others) in
+    (λ i. has (rest i) || sym theirs i)
+    ∙ or_shared (has (take k vs)) (has (drop k vs)) (has (drop k others))
     ∙ (λ i. mine i || theirs i)
+
+pub left_beyond : (a b n : Bool) → (a || n) ≡ (b || n) → (a && not n) ≡ (b && not n)
+left_beyond true true n h = refl
+left_beyond true false true h = refl
+left_beyond true false false h = cc
+left_beyond false true true h = refl
+left_beyond false true false h = cc
+left_beyond false false n h = refl
+
+-- a test of a leaf is one of each leaf that is the same
+pub at_leaf : (l m : Leaf) (test : Leaf → Bool) → (is_same_leaf l m && test l) ≡ (is_same_leaf l m && test m)
+at_leaf l m test = by_bool (is_same_leaf l m) (λ same. rw same (ap test ((is_same_leaf-Decides l m).0 same))) (λ differs. rw differs refl)
+
+-- values that, with what was found, have the texts of a resource have those of its texts that what was found lacks
+pub beyond_at : (leaf : Leaf) (q : UniqueName) (values : List Row) (c : Content) (found : Option Content)
+    → (has_text_in leaf (string_bytes q.text) values || is_under_at_in leaf (string_bytes q.text) found)
+    ≡ (is_under_at leaf (string_bytes q.text) c || is_under_at_in leaf (string_bytes q.text) found)
+    → (is_same_leaf leaf q.leaf && (has_text_in leaf (string_bytes q.text) values && not (is_under_in q found)))
+    ≡ (is_same_leaf leaf q.leaf && (is_under q c && not (is_under_in q found)))
+beyond_at leaf q values c found h =
+    let t = string_bytes q.text in
+    let has = has_text_in leaf t values in
+    sym (at_leaf leaf q.leaf (λ (l : Leaf). has && not (is_under_at_in l t found)))
+    ∙ ap (λ (b : Bool). is_same_leaf leaf q.leaf && b) (left_beyond has (is_under_at leaf t c) (is_under_at_in leaf t found) h)
+    ∙ at_leaf leaf q.leaf (λ (l : Leaf). is_under_at l t c && not (is_under_at_in l t found))
+
+-- a resource is indexed under both of two texts that are alike, or under neither
+pub under_alike : (n q : UniqueName) (c : Content) → is_alike n q ≡ true → is_under n c ≡ is_under q c
+under_alike n q c alike = ap (λ (m : Name). is_under_at m.leaf m.text c) (alike_named n q alike)
+
+either : (a b x : Bool) → ((a && x) || (b && x)) ≡ ((a || b) && x)
+either true true true = refl
+either true true false = refl
+either true false true = refl
+either true false false = refl
+either false b x = refl
+
+-- what holds at the leaves so far, or at one more leaf
+pub leaf_more : (leaf : Leaf) (leaves : List Leaf) (k : ℕ) (d : Leaf) (x before after : Bool) → k < length leaves
+    → before ≡ (list_any (λ l. is_same_leaf l leaf) (take k leaves) && x) → after ≡ (before || (is_same_leaf (get_or leaves k d) leaf && x))
+    → after ≡ (list_any (λ l. is_same_leaf l leaf) (take (k + 1) leaves) && x)
+leaf_more leaf leaves k d x before after inside so_far more =
+    let test = λ (l : Leaf). is_same_leaf l leaf in
+    more
+    ∙ ap (λ (b : Bool). b || (test (get_or leaves k d) && x)) so_far
+    ∙ either (list_any test (take k leaves)) (test (get_or leaves k d)) x
+    ∙ ap (λ (b : Bool). b && x) (sym (list_any_more test leaves k d inside))
+
+both_pass : (a b : Bool) → (a && (a && b)) ≡ (a && b)
+both_pass true b = refl
+both_pass false b = refl
+
+-- a resource is indexed only under texts at the leaves of its kind
+pub under_leaves : (q : UniqueName) (c : Content) (leaves : List Leaf) (k : ℕ) → length leaves ≤ k → leaves ≡ indexed_leaves c.kind
+    → (list_any (λ l. is_same_leaf l q.leaf) (take k leaves) && is_under q c) ≡ is_under q c
+under_leaves q c leaves k all is =
+    (λ i. list_any (λ (l : Leaf). (decided is_same_leaf is_same_leaf-Decides).symm l q.leaf i) ((take_all k leaves all ∙ is) i) && is_under q c)
+    ∙ both_pass (is_indexed c.kind q.leaf) (has_text q.leaf (string_bytes q.text) c)

@@ -1,8 +1,12 @@
 pub mod Stores
 pub mod Shelves
+pub mod TextFilters
+pub mod Windows
 pub mod Collections
 pub mod code
 pub mod Caches
+pub mod IndexedTexts
 pub mod Members
+pub mod TextIndex
 pub mod Owners
 pub mod Indexed

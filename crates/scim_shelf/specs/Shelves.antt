@@ -6,7 +6,7 @@ use Rattle.scim_text.specs.declared.memory.Failed.TheVariants.{Because}
 use Rattle.scim_cell.specs.Content.{Content}
 use Rattle.scim_shelf.specs.declared.faults.ShelfFault.{ShelfFault}
 use Rattle.scim_shelf.specs.declared.faults.ShelfFault.TheVariants.{Device, Full}
-use Rattle.scim_shelf.specs.Stores.{Store, IsStore, last_number}
+use Rattle.scim_shelf.specs.Stores.{Store, IsStore, last_number, window}
 
 -- The count of failures after a call that failed: one more after `Device`, unless the count is at its
 -- maximum, 2^64 - 1.
@@ -50,6 +50,13 @@ pub record TookPrefix {V : Type 0} (Takes : V → Content → V → Type 0) (bef
   pub left : List Content
   pub whole : taken ++ left ≡ cs
   pub took : FoldsTo Takes before taken after
+
+-- A visitor took the `count` resources after the first `skipped`, in order, and `total` is the number of all of
+-- them.
+pub record TookWindow {V : Type 0} (Takes : V → Content → V → Type 0) (before : V) (skipped count : ℕ) (cs : List Content) (after : V)
+    (total : ℕ) : Type 0 where
+  pub number : total ≡ length cs
+  pub took : FoldsTo Takes before (window skipped count cs) after
 
 -- If a call that passes resources to a visitor fails with `Device`, and the shelf is honest after the call,
 -- the visitor took a prefix of these resources.

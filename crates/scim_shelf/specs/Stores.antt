@@ -1,16 +1,22 @@
 -- The store that a shelf represents, and how a change alters it.
-use Rattle.std.specs.Prelude.{◌≡◌, ◌≢◌, ℕ, Bool, ◌&&◌, List, [], ◌∷◌, ◌++◌, find, filter, nat_eq, All, AllPairs, Option, ⊤}
+use Rattle.std.specs.Prelude.{◌≡◌, ◌≢◌, ℕ, Bool, false, ◌&&◌, List, [], ◌∷◌, ◌++◌, find, filter, nat_eq, take, drop, All, AllPairs, Option, Some, ⊤, if◌then◌else◌}
 use Rattle.std.specs.List.{list_any}
 use Rattle.std.specs.List.Sorted.{IsStrictlySortedBy, IsPermutation}
 use Rattle.std.specs.Ordering.{nat_cmp, is_lt, is_gt}
 use Rattle.std.specs.Cmp.Lexicographic.{slice_cmp, pointwise}
 use Rattle.scim_schema.specs.declared.Kind.{Kind}
 use Rattle.scim_schema.specs.declared.Kind.TheVariants.{Group}
-use Rattle.scim_schema.specs.Units.{is_same_leaf}
+use Rattle.scim_schema.specs.declared.Leaf.{Leaf}
+use Rattle.scim_schema.specs.Characteristics.{is_case_exact}
+use Rattle.scim_schema.specs.Units.{is_same_leaf, unit_of}
+use Rattle.scim_text.specs.Names.{folded}
+use Rattle.scim_cell.specs.declared.atoms.Atom.{Atom}
+use Rattle.scim_cell.specs.declared.atoms.Atom.TheVariants.{Text}
 use Rattle.scim_cell.specs.Content.{Content}
 use Rattle.scim_cell.specs.Equality.{is_same_id}
-use Rattle.scim_cell.specs.Kinds.{is_of}
+use Rattle.scim_cell.specs.Kinds.{is_of, of_kind}
 use Rattle.scim_cell.specs.Order.{id_cmp}
+use Rattle.scim_cell.specs.Rows.{Row, rows, values, atom_in}
 use Rattle.scim_value.specs.Members.{lists_value}
 use Rattle.scim_value.specs.Resource.{IsResource, HasBase}
 use Rattle.scim_value.specs.Uniqueness.{Name, unique_names, AreApart}
@@ -67,6 +73,32 @@ of_id id cs = find (λ c. is_same_id id c.id) cs
 -- Whether a resource is a group that lists the value among its members (RFC 7643 section 4.2).
 abbrev pub is_group_with : List ℕ → Content → Bool
 is_group_with value c = is_of Group c && lists_value value c
+
+-- The text that comparisons at a leaf use: unchanged if the leaf is caseExact, otherwise folded (RFC 7643
+-- section 2.2).
+abbrev pub compared_text : Leaf → List ℕ → List ℕ
+compared_text leaf t = if is_case_exact leaf then t else folded t
+
+-- Whether the option contains a text that compares as `text` at the leaf.
+abbrev pub is_compared : Leaf → List ℕ → Option Atom → Bool
+is_compared leaf text (Some (Text t)) = pointwise nat_eq text (compared_text leaf t)
+is_compared leaf text _ = false
+
+-- Whether one of these values has the text at the leaf, as comparisons use it.
+abbrev pub has_text_in : Leaf → List ℕ → List Row → Bool
+has_text_in leaf text rs = list_any (λ (r : Row). is_compared leaf text (atom_in leaf r.fields)) rs
+
+-- Whether a value of the resource has the text at the leaf, as comparisons use it.
+abbrev pub has_text : Leaf → List ℕ → Content → Bool
+has_text leaf text c = has_text_in leaf text (values (unit_of leaf) (rows c))
+
+-- The resources of the kind that have the text at the leaf, in the order of the list.
+abbrev pub with_text : Kind → Leaf → List ℕ → List Content → List Content
+with_text kind leaf text cs = filter (has_text leaf text) (of_kind kind cs)
+
+-- The `count` resources after the first `skipped`, or as many as there are.
+abbrev pub window : ℕ → ℕ → List Content → List Content
+window skipped count cs = take count (drop skipped cs)
 
 -- The resources whose ids are less than `id`.
 abbrev pub below : List ℕ → List Content → List Content

@@ -14,7 +14,7 @@ use crate::faults::ShelfFault;
 use crate::shelf::{Shelf, Visitor};
 use scim_audit::AuditRow;
 use scim_cell::Id;
-use scim_schema::Kind;
+use scim_schema::{Kind, Leaf};
 use scim_text::Failed;
 use scim_value::{Resource, UniqueName};
 use std::alloc::Global;
@@ -186,6 +186,34 @@ impl<S: Shelf> Shelf for CachedShelf<S> {
         match &self.resources {
             Some(resources) => Ok(resources.show(alloc, kind, visitor)?),
             None => self.lower.each(alloc, kind, visitor),
+        }
+    }
+
+    fn each_with<V: Visitor>(
+        &mut self,
+        alloc: Global,
+        kind: Kind,
+        leaf: Leaf,
+        text: &str,
+        visitor: &mut V,
+    ) -> Result<(), Failed<ShelfFault>> {
+        match &self.resources {
+            Some(resources) => Ok(resources.show_with(alloc, kind, leaf, text, visitor)?),
+            None => self.lower.each_with(alloc, kind, leaf, text, visitor),
+        }
+    }
+
+    fn each_from<V: Visitor>(
+        &mut self,
+        alloc: Global,
+        kind: Kind,
+        skipped: usize,
+        count: usize,
+        visitor: &mut V,
+    ) -> Result<usize, Failed<ShelfFault>> {
+        match &self.resources {
+            Some(resources) => Ok(resources.show_from(alloc, kind, skipped, count, visitor)?),
+            None => self.lower.each_from(alloc, kind, skipped, count, visitor),
         }
     }
 

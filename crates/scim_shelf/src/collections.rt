@@ -1,4 +1,4 @@
-//! The resources of a store in memory, indexed by id, by unique name and by member.
+//! The resources of a store in memory, indexed by id, by unique name and by text.
 ghost use Rattle.std.specs.Prelude.{◌≡◌, ◌&&◌, ◌||◌, not, ℕ, List, [], true, cond, IfOk, OnOk, OnErr, map, find, filter, AllPairs, length};
 ghost use Rattle.std.specs.Ordering.{nat_cmp};
 ghost use Rattle.std.specs.Cmp.Lexicographic.{slice_cmp};
@@ -7,37 +7,47 @@ ghost use Rattle.std.specs.BTreeSet.{contains};
 ghost use Rattle.std.specs.List.{FoldsTo};
 ghost use Rattle.std.specs.List.Sorted.{IsPermutation};
 ghost use Rattle.std.specs.Option.{option_copied};
+ghost use Rattle.scim_schema.specs.declared.Kind.TheVariants.{Group};
 ghost use Rattle.scim_cell.specs.Content.{Content};
 ghost use Rattle.scim_cell.specs.Kinds.{of_kind};
 ghost use Rattle.scim_value.specs.declared.uniqueness.UniqueName.{UniqueName};
 ghost use Rattle.scim_value.specs.Uniqueness.{name_of, AreApart};
-ghost use Rattle.scim_shelf.specs.Stores.{Store, HasPlace, CanKeep, IsOld, is_at, has_name, is_group_with, changed, keep, without};
+ghost use Rattle.scim_shelf.specs.Stores.{Store, HasPlace, CanKeep, IsOld, is_at, has_name, is_group_with, with_text, has_text_in, changed, keep, without};
 ghost use Rattle.scim_shelf.specs.Collections.{IsCollection};
+ghost use Rattle.scim_shelf.specs.Shelves.{TookWindow};
 ghost use Rattle.scim_shelf.specs.Indexed.{has_id, has_in, only_of, names_of, before};
 ghost use Rattle.scim_shelf.specs.Owners.{is_among};
-ghost use Rattle.scim_shelf.specs.Members.{is_same, is_noted, is_one_of, is_value_of, is_group_in, IsUnnoted, HasSameNotes};
+ghost use Rattle.scim_shelf.specs.IndexedTexts.{is_under, is_under_at, is_under_at_in, is_under_in};
+ghost use Rattle.scim_shelf.specs.TextIndex.{is_same, is_noted, IsUnnoted, HasSameNotes};
 
 use crate::changes::Change;
-use crate::groups::{members_beyond, noted_members, values_beyond};
-use crate::members::{Holders, Members};
+use crate::indexed_texts::{
+    indexed_values, is_indexed, texts_beyond, texts_indexed, values_beyond,
+};
 use crate::owners::Owners;
 use crate::shelf::Visitor;
-use scim_cell::{Id, Row, Text};
-use scim_schema::Kind;
+use crate::text_filters::TextFilter;
+use crate::text_index::{Holders, TextIndex};
+use crate::windows::Window;
+use scim_cell::{Id, Row};
+use scim_schema::{Attribute, Kind, Leaf, SubAttribute, indexed_leaves};
 use scim_text::NoMemory;
 use scim_value::{Resource, UniqueName, unique_names};
 use std::alloc::Global;
 use std::collections::{BTreeMap, BTreeSet};
 
-/// The resources of a store in memory, indexed by id, by unique name and by member value.
+/// The resources of a store in memory, indexed by id, by unique name, and by the texts at the leaves of
+/// [`indexed_leaves`], members' values among them.
 ///
-/// A look-up by id searches a tree. A look-up by unique name or by member value finds the ids in a tree of
-/// names or of values and then searches the tree of resources for each id, without reading the members of any
-/// group. Making a change reads only the stored resource that has the id of the change.
+/// A look-up by id searches a tree. A look-up by unique name or by text finds the ids in a tree of names or of
+/// texts and then searches the tree of resources for each id, without reading the values of any resource. Making
+/// a change reads only the stored resource that has the id of the change.
 pub(crate) struct Collection {
     by_id: BTreeMap<Id, Resource>,
     owners: Owners,
-    members: Members,
+    texts: TextIndex,
+    /// The number of groups.
+    groups: usize,
 }
 
 impl Drop for Collection {
@@ -45,7 +55,8 @@ impl Drop for Collection {
         let Collection {
             by_id: _by_id,
             owners: _owners,
-            members: _members,
+            texts: _texts,
+            groups: _groups,
         } = self;
     }
 }
@@ -70,6 +81,16 @@ fn if_of(kind: Kind, found: Option<&Resource>) -> Option<&Resource>
     }
 }
 
+/// Returns 1 if the resource is a group, and 0 otherwise.
+fn groups_among(found: Option<&Resource>) -> usize
+    ensures { result ≡ length (of_kind Group (before (option_copied found.entry) [])) }
+{
+    match found {
+        Some(resource) if resource.kind() == Kind::Group => 1,
+        _ => 0,
+    }
+}
+
 impl Collection {
     /// Returns an empty collection.
     pub(crate) fn new(alloc: Global) -> Collection
@@ -78,7 +99,8 @@ impl Collection {
         Collection {
             by_id: BTreeMap::new(alloc),
             owners: Owners::new(alloc),
-            members: Members::new(alloc),
+            texts: TextIndex::new(alloc),
+            groups: 0,
         }
     }
 
@@ -176,40 +198,46 @@ impl Collection {
         Ok(gone)
     }
 
-    /// Returns the member values that the stored group with the id of `new` lists, but `new` doesn't. Their
+    /// Returns the texts under which the stored resource with the id of `new` is indexed, but `new` isn't. Their
     /// index entries are removed when `new` is stored.
-    fn values_gone(&self, alloc: Global, new: &Resource) -> Result<Vec<Text>, NoMemory>
+    fn texts_gone(&self, alloc: Global, new: &Resource) -> Result<Vec<UniqueName>, NoMemory>
         ensures { IfOk result (λ gone. (cs : List Content) → IsCollection cs self.now
-            → (v : List ℕ) → is_one_of v gone.items
-            ≡ (is_group_in v (find (has_id new.now.id) cs) && not (is_group_with v new.now))) }
+            → (q : UniqueName) → is_among q gone.items
+            ≡ (is_under_in q (find (has_id new.now.id) cs) && not (is_under q new.now))) }
     {
         match self.with_id(new.id()) {
-            Some(old) => values_beyond(alloc, old, new),
+            Some(old) => texts_beyond(alloc, old, new),
             None => Ok(Vec::new(alloc)),
         }
     }
 
-    /// Returns the member values that `new` lists, but the stored group of the same id doesn't. Their index
+    /// Returns the texts under which `new` is indexed, but the stored resource of the same id isn't. Their index
     /// entries are added before `new` is stored.
-    fn values_come(&self, alloc: Global, new: &Resource) -> Result<Vec<Text>, NoMemory>
+    fn texts_come(&self, alloc: Global, new: &Resource) -> Result<Vec<UniqueName>, NoMemory>
         ensures { IfOk result (λ come. (cs : List Content) → IsCollection cs self.now
-            → (v : List ℕ) → is_one_of v come.items
-            ≡ (is_group_with v new.now && not (is_group_in v (find (has_id new.now.id) cs)))) }
+            → (q : UniqueName) → is_among q come.items
+            ≡ (is_under q new.now && not (is_under_in q (find (has_id new.now.id) cs)))) }
     {
-        let members = self.members_to_note(new);
-        self.members.values_unnoted(alloc, members, new.id())
+        let mut come = Vec::new(alloc);
+        for leaf in indexed_leaves(new.kind()) {
+            let values = self.values_to_note(*leaf, new);
+            self.texts
+                .push_unnoted(alloc, *leaf, values, new.id(), &mut come)?;
+        }
+        Ok(come)
     }
 
-    /// Returns the members of `new` after the prefix that `new` shares with the stored group of the same id.
-    /// The values in that prefix are already indexed. Returns all members if there is no stored group.
-    fn members_to_note<'a>(&self, new: &'a Resource) -> &'a [Row]
-        ensures { (cs : List Content) → IsCollection cs self.now → (v : List ℕ)
-            → (is_value_of v result.now || is_group_in v (find (has_id new.now.id) cs))
-            ≡ (is_group_with v new.now || is_group_in v (find (has_id new.now.id) cs)) }
+    /// Returns the indexed values of `new` at the leaf after the prefix that `new` shares with the stored resource
+    /// of the same id. The texts in that prefix are already indexed. Returns all indexed values if there is no
+    /// stored resource.
+    fn values_to_note<'a>(&self, leaf: Leaf, new: &'a Resource) -> &'a [Row]
+        ensures { (cs : List Content) → IsCollection cs self.now → (t : List ℕ)
+            → (has_text_in leaf t result.now || is_under_at_in leaf t (find (has_id new.now.id) cs))
+            ≡ (is_under_at leaf t new.now || is_under_at_in leaf t (find (has_id new.now.id) cs)) }
     {
         match self.with_id(new.id()) {
-            Some(old) => members_beyond(old, new),
-            None => noted_members(new),
+            Some(old) => values_beyond(leaf, old, new),
+            None => indexed_values(leaf, new),
         }
     }
 
@@ -244,42 +272,62 @@ impl Collection {
         let names = unique_names(alloc, &resource)?;
         let names_gone = self.names_gone(alloc, id, names.as_slice())?;
         let names_come = self.owners.unowned(names);
-        let gone = self.values_gone(alloc, &resource)?;
-        let come = self.values_come(alloc, &resource)?;
+        let gone = self.texts_gone(alloc, &resource)?;
+        let come = self.texts_come(alloc, &resource)?;
+        let groups = self.groups_with(&resource)?;
         self.owners.note(alloc, names_come.as_slice(), id)?;
         if let Err(refused) = self.insert(alloc, resource, come.as_slice()) {
             self.owners.forget(names_come.as_slice());
             return Err(refused);
         }
         self.owners.forget(names_gone.as_slice());
-        self.members.forget_values(gone.as_slice(), id);
+        self.texts.forget(gone.as_slice(), id);
+        self.groups = groups;
         Ok(())
     }
 
-    /// Stores the resource by its id, and adds the id to the index of member values under the values `come`.
-    /// A stored resource with the same id is replaced.
+    /// Stores the resource by its id, and adds the id to the index of texts under the texts `come`. A stored
+    /// resource with the same id is replaced.
     ///
-    /// On an error nothing is changed, provided that the id was indexed under none of these values before.
-    fn insert(&mut self, alloc: Global, resource: Resource, come: &[Text]) -> Result<(), NoMemory>
+    /// On an error nothing is changed, provided that the id was indexed under none of these texts before.
+    fn insert(
+        &mut self,
+        alloc: Global,
+        resource: Resource,
+        come: &[UniqueName],
+    ) -> Result<(), NoMemory>
         ensures owners { self.new.owners ≡ self.old.owners }
+        ensures groups { self.new.groups ≡ self.old.groups }
         ensures resources { OnOk result (self.new.by_id.entries
             ≡ insert_entry (slice_cmp nat_cmp) self.old.by_id.entries resource.id resource) }
-        ensures noted { OnOk result ((v i : List ℕ)
-            → is_noted self.new.members v i
-            ≡ cond (is_one_of v come.now && is_same resource.id i) true
-            (is_noted self.old.members v i)) }
+        ensures noted { OnOk result ((q : UniqueName) (i : List ℕ)
+            → is_noted self.new.texts q i
+            ≡ cond (is_among q come.now && is_same resource.id i) true
+            (is_noted self.old.texts q i)) }
         ensures err_resources { OnErr result (self.new.by_id.entries ≡ self.old.by_id.entries) }
-        ensures err_noted { OnErr result (IsUnnoted self.old.members come.now resource.id
-            → HasSameNotes self.old.members self.new.members) }
+        ensures err_noted { OnErr result (IsUnnoted self.old.texts come.now resource.id
+            → HasSameNotes self.old.texts self.new.texts) }
     {
         let id = resource.id();
-        self.members.note_values(alloc, come, id)?;
+        self.texts.note(alloc, come, id)?;
         match self.by_id.insert(id, resource) {
             Ok(_) => Ok(()),
             Err(_) => {
-                self.members.forget_values(come, id);
+                self.texts.forget(come, id);
                 Err(NoMemory)
             }
+        }
+    }
+
+    /// Returns the texts under which the resource with the id is indexed; an empty list if there is no such
+    /// resource.
+    fn texts_at(&self, alloc: Global, id: Id) -> Result<Vec<UniqueName>, NoMemory>
+        ensures { IfOk result (λ texts. (cs : List Content) → IsCollection cs self.now
+            → (q : UniqueName) → is_among q texts.items ≡ is_under_in q (find (has_id id) cs)) }
+    {
+        match self.with_id(id) {
+            Some(resource) => texts_indexed(alloc, resource),
+            None => Ok(Vec::new(alloc)),
         }
     }
 
@@ -291,12 +339,43 @@ impl Collection {
             → IsCollection cs self.new) }
     {
         let names = self.names_at(alloc, id)?;
+        let texts = self.texts_at(alloc, id)?;
+        let groups = self.groups_without(id);
         self.owners.forget(names.as_slice());
-        let Some(old) = self.by_id.remove(&id) else {
-            return Ok(());
-        };
-        self.members.forget_group(&old, id);
+        self.texts.forget(texts.as_slice(), id);
+        self.by_id.remove(&id);
+        self.groups = groups;
         Ok(())
+    }
+
+    /// Returns the number of groups after the resource is stored. A stored resource with the same id is replaced.
+    /// Fails if the number overflows `usize`.
+    fn groups_with(&self, new: &Resource) -> Result<usize, NoMemory>
+        ensures { IfOk result (λ groups. (cs : List Content) → IsCollection cs self.now
+            → groups ≡ length (of_kind Group (keep new.now cs))) }
+    {
+        let others = self.groups_without(new.id());
+        let groups = others.checked_add(groups_among(Some(new))).ok_or(NoMemory)?;
+        Ok(groups)
+    }
+
+    /// Returns the number of groups after the user or group with the id, if there is one, is removed.
+    fn groups_without(&self, id: Id) -> usize
+        ensures { (cs : List Content) → IsCollection cs self.now
+            → result ≡ length (of_kind Group (without id cs)) }
+    {
+        self.groups.saturating_sub(groups_among(self.with_id(id)))
+    }
+
+    /// Returns the number of resources of the kind.
+    fn number_of(&self, kind: Kind) -> usize
+        ensures { (cs : List Content) → IsCollection cs self.now
+            → result ≡ length (of_kind kind cs) }
+    {
+        match kind {
+            Kind::User => self.len().saturating_sub(self.groups),
+            Kind::Group => self.groups,
+        }
     }
 
     /// Returns the number of resources.
@@ -325,6 +404,34 @@ impl Collection {
         Ok(())
     }
 
+    /// Passes at most `count` resources of the kind to the visitor, in order of id, after the first `skipped`, and
+    /// returns the number of all resources of the kind. Goes no further than the end of that window.
+    ///
+    /// Also fails if the visitor was shown more than `usize::MAX` resources. After an error the visitor is unusable.
+    pub fn show_from<V: Visitor>(
+        &self,
+        alloc: Global,
+        kind: Kind,
+        skipped: usize,
+        count: usize,
+        visitor: &mut V,
+    ) -> Result<usize, NoMemory>
+        ensures { IfOk result (λ total. (cs : List Content) → IsCollection cs self.now
+            → TookWindow V.takes visitor.old skipped count (of_kind kind cs) visitor.new total) }
+    {
+        let total = self.number_of(kind);
+        let mut window = Window::new(skipped, count, visitor);
+        for resource in self.by_id.values() {
+            if window.is_past() {
+                return Ok(total);
+            }
+            if resource.kind() == kind {
+                window.take(alloc, resource)?;
+            }
+        }
+        Ok(total)
+    }
+
     /// Passes the groups that list the value among their members to the visitor, in order of id (RFC 7643
     /// section 4.2). Neither copies a group nor reads its members.
     ///
@@ -338,38 +445,89 @@ impl Collection {
         ensures { OnOk result ((cs : List Content) → IsCollection cs self.now
             → FoldsTo V.takes visitor.old (filter (is_group_with value.now) cs) visitor.new) }
     {
-        match self.members.of(value) {
-            Some(Holders::One(id)) => self.show_one(alloc, *id, visitor),
-            Some(Holders::Several(ids)) => self.show_several(alloc, ids, visitor),
+        let leaf = Leaf::of(Attribute::Members, SubAttribute::Value);
+        self.show_indexed(alloc, Kind::Group, leaf, value, visitor)
+    }
+
+    /// Passes the resources of the kind that have the text at the leaf to the visitor, in order of id. Reads no
+    /// other resource if the leaf is indexed for the kind, and all resources otherwise.
+    ///
+    /// After an error the visitor is unusable.
+    pub fn show_with<V: Visitor>(
+        &self,
+        alloc: Global,
+        kind: Kind,
+        leaf: Leaf,
+        text: &str,
+        visitor: &mut V,
+    ) -> Result<(), NoMemory>
+        ensures { OnOk result ((cs : List Content) → IsCollection cs self.now
+            → FoldsTo V.takes visitor.old (with_text kind leaf text.now cs) visitor.new) }
+    {
+        if is_indexed(kind, leaf) {
+            return self.show_indexed(alloc, kind, leaf, text, visitor);
+        }
+        let mut filter = TextFilter::new(leaf, text, visitor);
+        self.show(alloc, kind, &mut filter)
+    }
+
+    /// Passes the resources of the kind that are indexed under the text at the leaf to the visitor, in order of
+    /// id. After an error the visitor is unusable.
+    fn show_indexed<V: Visitor>(
+        &self,
+        alloc: Global,
+        kind: Kind,
+        leaf: Leaf,
+        text: &str,
+        visitor: &mut V,
+    ) -> Result<(), NoMemory>
+        ensures { OnOk result ((cs : List Content) → IsCollection cs self.now
+            → FoldsTo V.takes visitor.old
+            (filter (is_under_at leaf text.now) (of_kind kind cs)) visitor.new) }
+    {
+        let text = String::from_str(alloc, text)?;
+        match self.texts.of(&UniqueName { leaf, text }) {
+            Some(Holders::One(id)) => self.show_one(alloc, kind, *id, visitor),
+            Some(Holders::Several(ids)) => self.show_several(alloc, kind, ids, visitor),
             None => Ok(()),
         }
     }
 
-    /// Passes the resource with the id, if any, to the visitor. After an error the visitor is unusable.
-    fn show_one<V: Visitor>(&self, alloc: Global, id: Id, visitor: &mut V) -> Result<(), NoMemory>
+    /// Passes the resource with the id to the visitor, if there is one and it is of the kind. After an error the
+    /// visitor is unusable.
+    fn show_one<V: Visitor>(
+        &self,
+        alloc: Global,
+        kind: Kind,
+        id: Id,
+        visitor: &mut V,
+    ) -> Result<(), NoMemory>
         ensures { OnOk result ((cs : List Content) → IsCollection cs self.now
-            → FoldsTo V.takes visitor.old (before (find (has_id id) cs) []) visitor.new) }
+            → FoldsTo V.takes visitor.old
+            (of_kind kind (before (find (has_id id) cs) [])) visitor.new) }
     {
         match self.with_id(id) {
-            Some(resource) => visitor.take(alloc, resource),
-            None => Ok(()),
+            Some(resource) if resource.kind() == kind => visitor.take(alloc, resource),
+            _ => Ok(()),
         }
     }
 
-    /// Passes the resources with these ids to the visitor, in order of id. After an error the visitor is
-    /// unusable.
+    /// Passes the resources of the kind with these ids to the visitor, in order of id. After an error the visitor
+    /// is unusable.
     fn show_several<V: Visitor>(
         &self,
         alloc: Global,
+        kind: Kind,
         ids: &BTreeSet<Id>,
         visitor: &mut V,
     ) -> Result<(), NoMemory>
         ensures { OnOk result ((cs : List Content) → IsCollection cs self.now
             → FoldsTo V.takes visitor.old
-            (filter (λ c. contains (slice_cmp nat_cmp) ids.now c.id) cs) visitor.new) }
+            (of_kind kind (filter (λ c. contains (slice_cmp nat_cmp) ids.now c.id) cs))
+            visitor.new) }
     {
         for id in ids {
-            self.show_one(alloc, *id, visitor)?;
+            self.show_one(alloc, kind, *id, visitor)?;
         }
         Ok(())
     }

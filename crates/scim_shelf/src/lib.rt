@@ -1,6 +1,6 @@
 //! The store of a service provider as a trait, `Shelf`, with an implementation in memory and a cache over any
-//! other implementation. A shelf finds resources by id, by unique name and by member, and stores the audit
-//! rows (RFC 7643 sections 2.2, 3.1 and 4.2).
+//! other implementation. A shelf finds resources by id, by unique name, by member and by the texts of some
+//! leaves, and stores the audit rows (RFC 7643 sections 2.2, 3.1 and 4.2).
 #![tactic(auto)]
 
 mod caches;
@@ -8,16 +8,20 @@ mod changes;
 mod collections;
 mod copies;
 mod faults;
-mod groups;
+mod indexed_texts;
 mod members;
 mod memory;
 mod owners;
 mod shelf;
+mod text_filters;
+mod text_index;
+mod windows;
 
 pub use caches::CachedShelf;
 pub use changes::Change;
 pub use copies::{CacheContents, all_of};
 pub use faults::ShelfFault;
-pub use groups::member_values;
+pub use indexed_texts::shared_values;
+pub use members::member_values;
 pub use memory::MemoryShelf;
 pub use shelf::{Shelf, Visitor, show_all};

@@ -10,7 +10,7 @@ use crate::faults::ShelfFault;
 use crate::shelf::{Shelf, Visitor};
 use scim_audit::AuditRow;
 use scim_cell::Id;
-use scim_schema::Kind;
+use scim_schema::{Kind, Leaf};
 use scim_text::{Failed, NoMemory, push};
 use scim_value::{Resource, UniqueName};
 use std::alloc::Global;
@@ -100,6 +100,29 @@ impl Shelf for MemoryShelf {
     ) -> Result<(), Failed<ShelfFault>> {
         self.collection.show(alloc, kind, visitor)?;
         Ok(())
+    }
+
+    fn each_with<V: Visitor>(
+        &mut self,
+        alloc: Global,
+        kind: Kind,
+        leaf: Leaf,
+        text: &str,
+        visitor: &mut V,
+    ) -> Result<(), Failed<ShelfFault>> {
+        Ok(self.collection.show_with(alloc, kind, leaf, text, visitor)?)
+    }
+
+    fn each_from<V: Visitor>(
+        &mut self,
+        alloc: Global,
+        kind: Kind,
+        skipped: usize,
+        count: usize,
+        visitor: &mut V,
+    ) -> Result<usize, Failed<ShelfFault>> {
+        let collection = &self.collection;
+        Ok(collection.show_from(alloc, kind, skipped, count, visitor)?)
     }
 
     fn commit(

@@ -19,7 +19,7 @@ pub(crate) struct Owners {
 }
 
 /// Returns a copy of the name.
-fn copy_of(alloc: Global, name: &UniqueName) -> Result<UniqueName, NoMemory>
+pub(crate) fn copy_of(alloc: Global, name: &UniqueName) -> Result<UniqueName, NoMemory>
     ensures { IfOk result (λ copy. name_of copy ≡ name_of name.now) }
 {
     let text = String::from_str(alloc, name.text.as_str())?;

@@ -9,7 +9,7 @@ ghost use Rattle.scim_shelf_watch.specs.Watched.{Represents, numbered, lower_of,
 use crate::watcher::Watcher;
 use scim_audit::AuditRow;
 use scim_cell::Id;
-use scim_schema::Kind;
+use scim_schema::{Kind, Leaf};
 use scim_shelf::{Change, Shelf, ShelfFault, Visitor};
 use scim_text::Failed;
 use scim_value::{Resource, UniqueName};
@@ -164,6 +164,34 @@ impl<S: Shelf, W: Watcher> Shelf for WatchedShelf<S, W> {
         visitor: &mut V,
     ) -> Result<(), Failed<ShelfFault>> {
         counted(&mut self.failures, self.lower.each(alloc, kind, visitor))
+    }
+
+    fn each_with<V: Visitor>(
+        &mut self,
+        alloc: Global,
+        kind: Kind,
+        leaf: Leaf,
+        text: &str,
+        visitor: &mut V,
+    ) -> Result<(), Failed<ShelfFault>> {
+        counted(
+            &mut self.failures,
+            self.lower.each_with(alloc, kind, leaf, text, visitor),
+        )
+    }
+
+    fn each_from<V: Visitor>(
+        &mut self,
+        alloc: Global,
+        kind: Kind,
+        skipped: usize,
+        count: usize,
+        visitor: &mut V,
+    ) -> Result<usize, Failed<ShelfFault>> {
+        counted(
+            &mut self.failures,
+            self.lower.each_from(alloc, kind, skipped, count, visitor),
+        )
     }
 
     fn commit(
