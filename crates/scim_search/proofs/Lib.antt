@@ -4,5 +4,7 @@ pub mod ListLemmas
 pub mod LookupLemmas
 pub mod NameLemmas
 pub mod StoreViews
+pub mod TextLemmas
 pub mod VisitLemmas
 pub mod WalkLemmas
+pub mod UnfilteredLemmas

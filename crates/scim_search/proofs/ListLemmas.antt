@@ -1,15 +1,11 @@
--- Lists: what two tests leave, the first element and the rest.
-use Rattle.std.proofs.Common.{◌≡◌, refl, sym, ap, ◌≤◌, ◌-◌, Bool, true, false, List, [], ◌∷◌, length, length-drop, get_or, drop, take, take_all, filter, arith}
+-- Lists: the first element and the rest.
+use Rattle.std.proofs.Common.{◌≡◌, refl, sym, ap, ◌≤◌, ◌-◌, Bool, true, false, List, [], ◌∷◌, length, length-drop, get_or, drop, take, take_all, arith}
 use Rattle.std.specs.Prelude.{not}
 
 -- what isn't denied is so
 pub not_false : (b : Bool) → not b ≡ false → b ≡ true
 not_false true e = refl
 not_false false e = cc
-
-pub filter_swap : {X : Type 0} (p q : X → Bool) (xs : List X) → filter q (filter p xs) ≡ filter p (filter q xs)
-filter_swap p q [] = refl
-filter_swap p q (x ∷ xs) = grind (arith, filter_swap p q xs)
 
 -- what is behind the first, counted, is all that is behind it
 pub rest_whole : {X : Type 0} (xs : List X) → take (length xs - 1) (drop 1 xs) ≡ drop 1 xs

@@ -38,8 +38,8 @@ use Rattle.scim_query.specs.Pages.{is_match, matching, IsPage}
 use Rattle.scim_shelf.specs.Stores.{Store, IsStore, has_name, is_at}
 use Rattle.scim_search.specs.Lookups.{OnlyThose}
 use Rattle.scim_search.proofs.ApartLemmas.{not_both}
-use Rattle.scim_search.proofs.ListLemmas.{filter_swap}
-use Rattle.scim_search.proofs.NameLemmas.{is_equal}
+use Rattle.scim_shelf.proofs.Facts.{filter_swap}
+use Rattle.scim_search.proofs.TextLemmas.{is_equal}
 
 -- of what is seen of a list, what is seen of its first resource comes first
 first_apart : (f : Option Filter) (o : Option Content) (xs : List Content) → matching f (and_those o xs) ≡ matching f (and_those o []) ++ matching f xs
@@ -111,16 +111,22 @@ pub found_of_kind : (kind : Kind) (test : Content → Bool) (cs : List Content) 
     → filter test (of_kind kind cs) ≡ of_kind kind (and_those (find test cs) [])
 found_of_kind kind test cs one apart = filter_swap (is_of kind) test cs ∙ ap (of_kind kind) (only_one test cs one apart)
 
+-- the page of the resources that can match is that of all
+pub page_of_passing : (kind : Kind) (passes : Content → Bool) (v : Viewer) (gs : List Content) (base : List ℕ) (store : Store) (query : Query) (page : Page)
+    → IsStore base store → OnlyThose kind query.filter passes
+    → IsPage (views v gs (filter passes (of_kind kind store.resources))) query page → IsPage (views v gs (of_kind kind store.resources)) query page
+page_of_passing kind passes v gs base store query page is only =
+    let all = of_kind kind store.resources in
+    page_of_matching (views v gs (filter passes all)) (views v gs all) query page (page_narrowed kind query.filter passes v gs base store is only)
+
 -- the page of what was found is that of all, where only that can match
 pub page_found_of_all : (kind : Kind) (test : Content → Bool) (v : Viewer) (gs : List Content) (base : List ℕ) (store : Store) (query : Query) (found : Option Content) (page : Page)
     → IsStore base store → PassesOne test → OnlyThose kind query.filter test → found ≡ find test store.resources
     → IsPage (views v gs (of_kind kind (and_those found []))) query page → IsPage (views v gs (of_kind kind store.resources)) query page
 page_found_of_all kind test v gs base store query found page is one only same paged =
-    let all = of_kind kind store.resources in
-    let those : of_kind kind (and_those found []) ≡ filter test all
+    let those : of_kind kind (and_those found []) ≡ filter test (of_kind kind store.resources)
     = ap (λ (o : Option Content). of_kind kind (and_those o [])) same ∙ sym (found_of_kind kind test store.resources one is.keyed.apart) in
-    page_of_matching (views v gs (filter test all)) (views v gs all) query page (page_narrowed kind query.filter test v gs base store is only)
-    (subst (λ (cs : List Content). IsPage (views v gs cs) query page) those paged)
+    page_of_passing kind test v gs base store query page is only (subst (λ (cs : List Content). IsPage (views v gs cs) query page) those paged)
 
 -- one that is of another kind shows nothing
 pub of_another_kind : (kind : Kind) (v : Viewer) (gs : List Content) (c : Content) → is_of kind c ≡ false → [] ≡ views v gs (of_kind kind (c ∷ []))

@@ -1,32 +1,26 @@
 -- A resource in which a filter's text stands at a unique leaf has that unique name.
-use Rattle.std.proofs.Common.{◌≡◌, refl, sym, ◌∙◌, ap, subst, ℕ, zero, Bool, true, false, List, [], ◌∷◌, inl, inr, arith}
-use Rattle.std.specs.Prelude.{All, Option, None, Some, if◌then◌else◌}
+use Rattle.std.proofs.Common.{◌≡◌, refl, sym, ◌∙◌, ap, subst, ℕ, zero, true, false, List, [], ◌∷◌, arith}
+use Rattle.std.specs.Prelude.{All, Option, Some, if◌then◌else◌}
 use Rattle.std.specs.List.{list_any, flat_map}
 use Rattle.std.specs.Ordering.{is_eq}
-use Rattle.std.specs.declared.cmp.Ordering.{Ordering}
-use Rattle.std.specs.declared.cmp.Ordering.TheVariants.{Less, Equal, Greater}
 use Rattle.std.specs.Cmp.Lexicographic.{bytes_decides}
-use Rattle.std.proofs.lemmas.Map.Lookups.{exact_bytes}
-use Rattle.std.proofs.lemmas.Bool.{cases_Bool, or_left, or_right}
-use Rattle.std.proofs.lemmas.List.Elements.{All-nil, All-cons, All-head, All-tail, All-weaker, All-filter}
+use Rattle.std.proofs.lemmas.Bool.{or_left, or_right}
+use Rattle.std.proofs.lemmas.List.Elements.{All-nil, All-cons, All-head, All-weaker, All-filter}
 use Rattle.std.proofs.lemmas.List.Folds.{list_any-append}
 use Rattle.scim_schema.specs.declared.Kind.{Kind}
 use Rattle.scim_schema.specs.declared.Kind.TheVariants.{User, Group}
-use Rattle.scim_schema.specs.declared.Attribute.TheVariants.{UserName, Badge, Groups}
+use Rattle.scim_schema.specs.declared.Attribute.TheVariants.{UserName, Badge}
 use Rattle.scim_schema.specs.declared.Leaf.{Leaf}
-use Rattle.scim_schema.specs.declared.Unit.{Unit as AttributeUnit}
-use Rattle.scim_schema.specs.declared.characteristics.AttributeType.TheVariants.{String}
-use Rattle.scim_schema.specs.Units.{simple, unit_of, is_same_attribute, is_same_leaf}
+use Rattle.scim_schema.specs.Units.{simple, unit_of}
 use Rattle.scim_schema.specs.Characteristics.{characteristics_of, is_case_exact, is_multi_valued}
 use Rattle.scim_schema.specs.UniqueLeaves.{unique_leaves}
-use Rattle.scim_schema.proofs.Facts.{leaf_one, leaf_same}
+use Rattle.scim_schema.proofs.Facts.{leaf_same}
 use Rattle.scim_text.specs.Names.{folded}
 use Rattle.scim_cell.specs.declared.atoms.Atom.{Atom}
-use Rattle.scim_cell.specs.declared.atoms.Atom.TheVariants.{Text, Truth, Moment}
-use Rattle.scim_cell.specs.declared.rows.Field.{Field}
+use Rattle.scim_cell.specs.declared.atoms.Atom.TheVariants.{Text}
 use Rattle.scim_cell.specs.Place.{unit_cmp}
 use Rattle.scim_cell.specs.Content.{Content, IsPart, HasType}
-use Rattle.scim_cell.specs.Rows.{Row, rows, values, atom_in, atom_at, IsSoundField, IsSoundRow}
+use Rattle.scim_cell.specs.Rows.{Row, rows, values, atom_at, IsSoundRow}
 use Rattle.scim_value.specs.Resource.{first_at}
 use Rattle.scim_value.specs.Uniqueness.{Name, name_at}
 use Rattle.scim_value.proofs.Facts.{get_cell, sound_part}
@@ -39,24 +33,11 @@ use Rattle.scim_view.specs.Groups.{with_groups}
 use Rattle.scim_view.proofs.Facts.{seen_stands}
 use Rattle.scim_shelf.specs.Stores.{has_name, is_same_name}
 use Rattle.scim_search.specs.Lookups.{OnlyThose}
+use Rattle.scim_search.proofs.TextLemmas.{FitsLeaf, IsTextLeaf, equal_text, fits_in, known}
 
 -- ---- what may stand at a leaf
 
--- an atom that is there has the type of the leaf
-abbrev FitsLeaf : Kind → Leaf → Option Atom → Type 0
-FitsLeaf kind l None = Unit {0}
-FitsLeaf kind l (Some a) = HasType (characteristics_of kind l).attribute_type a
-
--- so has the one of a sound value
-fits_in : (kind : Kind) (u : AttributeUnit) (l : Leaf) (fs : List Field) → All (IsSoundField kind u) fs → FitsLeaf kind l (atom_in l fs)
-fits_in kind u l [] h = tt
-fits_in kind u l (f ∷ fs) h =
-    elim (cases_Bool (is_same_leaf f.leaf l)) [
-      | inl t ↦ rw t (subst (λ (m : Leaf). HasType (characteristics_of kind m).attribute_type f.atom) (leaf_one f.leaf l t) (All-head (IsSoundField kind u) f fs h).2)
-      | inr n ↦ rw n (fits_in kind u l fs (All-tail (IsSoundField kind u) f fs h))
-    ]
-
--- so has the first of sound values
+-- the first atom of sound values has the type of its leaf
 fits_first : (kind : Kind) (l : Leaf) (rs : List Row) → All (IsSoundRow kind) rs → FitsLeaf kind l (atom_at l zero rs)
 fits_first kind l [] h = tt
 fits_first kind l (r ∷ rs) h = fits_in kind r.unit l r.fields (All-head (IsSoundRow kind) r rs h).own
@@ -68,34 +49,16 @@ fits_part c l part =
     subst (FitsLeaf c.kind l) (sym (get_cell c part sound l zero))
     (fits_first c.kind l (values (unit_of l) (rows c)) (All-filter (λ (r : Row). is_eq (unit_cmp r.unit (unit_of l))) (IsSoundRow c.kind) (rows c) sound.own))
 
--- ---- texts that `eq` holds of
-
-pub is_equal : (o : Ordering) → is_eq o ≡ true → o ≡ Equal
-is_equal Less e = cc
-is_equal Equal e = refl
-is_equal Greater e = cc
-
--- where strings stand, what `eq` holds of is a text that compares as the text
-equal_text : (exact : Bool) (a : Atom) (text : List ℕ) → HasType String a → stands exact Eq a (literal.Text text) ≡ true → (s : List ℕ) × (a ≡ Text s) × (cased exact s ≡ cased exact text)
-equal_text exact (Truth b) text is e = absurd is
-equal_text exact (Moment m) text is e = absurd is
-equal_text exact (Text s) text is e = (s, refl, exact_bytes (cased exact s) (cased exact text) (is_equal _ e))
-
 -- ---- unique names
 
 -- a leaf at which a user has one text at most
-record IsTextLeaf (l : Leaf) : Type 0 where
+record IsOneTextLeaf (l : Leaf) : Type 0 where
   single : is_multi_valued l.attribute ≡ false
-  stored : is_same_attribute Groups l.attribute ≡ false
-  type : (characteristics_of User l).attribute_type ≡ String
+  text : IsTextLeaf User l
 
 -- the name at a leaf for a text
 abbrev named : Leaf → List ℕ → Name
 named l text = record { leaf = l; text = cased (is_case_exact l) text }
-
-known : (exact : Bool) (s : List ℕ) → (if exact then s else folded s) ≡ cased exact s
-known true s = refl
-known false s = refl
 
 -- a text at a leaf makes the name for each text that compares as it does
 has_text : (l : Leaf) (o : Option Atom) (s text : List ℕ) → o ≡ Some (Text s) → cased (is_case_exact l) s ≡ cased (is_case_exact l) text → list_any (is_same_name (named l text)) (name_at User l o) ≡ true
@@ -121,21 +84,21 @@ NamesByText kind leaf = (f : Option Filter) (text : List ℕ) → NeedsText f le
 
 -- a leaf of one text whose names are among those of a user
 abbrev IsNameLeaf : Leaf → Type 0
-IsNameLeaf l = IsTextLeaf l × ((c : Content) → c.kind ≡ User → (n : Name) → list_any (is_same_name n) (name_at User l (first_at l c)) ≡ true → has_name n c ≡ true)
+IsNameLeaf l = IsOneTextLeaf l × ((c : Content) → c.kind ≡ User → (n : Name) → list_any (is_same_name n) (name_at User l (first_at l c)) ≡ true → has_name n c ≡ true)
 
 by_text : (l : Leaf) → IsNameLeaf l → NamesByText User l
 by_text l leaf f text needs v gs c is sound matches =
-    let found = seen_stands (λ (a : Atom). stands (is_case_exact l) Eq a (literal.Text text)) l v gs c leaf.0.single leaf.0.stored sound.part (needs (with_groups v gs c) matches) in
+    let found = seen_stands (λ (a : Atom). stands (is_case_exact l) Eq a (literal.Text text)) l v gs c leaf.0.single leaf.0.text.stored sound.part (needs (with_groups v gs c) matches) in
     let fits : FitsLeaf User l (first_at l c) = subst (λ (k : Kind). FitsLeaf k l (first_at l c)) is (fits_part c l sound.part) in
     let typed : HasType (characteristics_of User l).attribute_type found.0 = subst (FitsLeaf User l) found.1 fits in
-    let is_text = equal_text (is_case_exact l) found.0 text (subst (λ t. HasType t found.0) leaf.0.type typed) found.2 in
+    let is_text = equal_text (is_case_exact l) found.0 text (subst (λ t. HasType t found.0) leaf.0.text.type typed) found.2 in
     leaf.1 c is (named l text) (has_text l (first_at l c) is_text.0 text (found.1 ∙ ap Some is_text.1) is_text.2)
 
-text_leaves : All IsTextLeaf (unique_leaves User)
+text_leaves : All IsOneTextLeaf (unique_leaves User)
 unfolding unique_leaves
 text_leaves =
-    All-cons IsTextLeaf (simple UserName) (simple Badge ∷ []) (record { single = refl; stored = refl; type = refl })
-    (All-cons IsTextLeaf (simple Badge) [] (record { single = refl; stored = refl; type = refl }) (All-nil IsTextLeaf))
+    All-cons IsOneTextLeaf (simple UserName) (simple Badge ∷ []) (record { single = refl; text = record { stored = refl; type = refl } })
+    (All-cons IsOneTextLeaf (simple Badge) [] (record { single = refl; text = record { stored = refl; type = refl } }) (All-nil IsOneTextLeaf))
 
 -- the names at each unique leaf are among those of a user
 names_among : (l : Leaf) → ((names : Leaf → List Name) → IsAmong names (unique_leaves User) l) → (c : Content) → c.kind ≡ User → (n : Name)

@@ -55,7 +55,8 @@ use Rattle.scim_search.specs.PatternCache.{AreOn}
 use Rattle.scim_search.specs.ReadPatterns.{ArePatterns, AreFor}
 use Rattle.std.proofs.lemmas.Option.{same_Some}
 use Rattle.scim_search.specs.ViewBuilders.{made_of_all, IsViewBuilder}
-use Rattle.scim_search.specs.Walks.{SeenResource, made_of_kind}
+use Rattle.scim_search.specs.declared.walks.Walk.{Walk}
+use Rattle.scim_search.specs.Walks.{SeenResource, is_walked, made_of_walk, walked}
 use Rattle.scim_search.proofs.ApartLemmas.{none_at}
 use Rattle.scim_search.proofs.StoreViews.{parts_of, made_map, made_views}
 
@@ -98,25 +99,42 @@ kind_found base store is kind k d lt =
     let cs = store.resources in
     All-filter (is_of kind) (λ c. is_of kind c ≡ true → find (is_at kind c.id) cs ≡ Some c) cs (found_each kind cs is.keyed.apart) k d lt (filter_passes (is_of kind) cs k d lt)
 
--- what is known of each resource of a kind that is seen
+-- where no text is given, all resources of the kind are walked
+pub all_walked : (cs : List Content) → cs ≡ filter (is_walked None) cs
+all_walked [] = refl
+all_walked (c ∷ cs) = ap (λ (ds : List Content). c ∷ ds) (all_walked cs)
+
+-- each resource of a walk is the one that is found by its id
+pub walked_found : (base : List ℕ) (store : Store) → IsStore base store → (walk : Walk)
+    → All (λ c. find (is_at walk.kind c.id) store.resources ≡ Some c) (walked walk store.resources)
+walked_found base store is walk = All-filter (is_walked walk.text) (λ c. find (is_at walk.kind c.id) store.resources ≡ Some c) (of_kind walk.kind store.resources) (kind_found base store is walk.kind)
+
+-- and is of the kind
+pub walked_kind : (walk : Walk) (cs : List Content) → All (λ c. c.kind ≡ walk.kind) (walked walk cs)
+walked_kind walk cs k d lt =
+    same_true the_kind tt _ walk.kind (All-filter (is_walked walk.text) (λ c. is_of walk.kind c ≡ true) (of_kind walk.kind cs) (filter_passes (is_of walk.kind) cs) k d lt)
+
+-- and a part
+walked_parts : (base : List ℕ) (store : Store) → IsStore base store → (walk : Walk) → All IsPart (walked walk store.resources)
+walked_parts base store is walk =
+    All-filter (is_walked walk.text) IsPart (of_kind walk.kind store.resources) (All-filter (is_of walk.kind) IsPart store.resources (parts_of base store is))
+
+-- what is known of each resource of a walk that is seen
 record Known (v : Viewer) (kind : Kind) (cs : List Content) (c : Content) : Type 0 where
   part : IsPart c
   is_kind : c.kind ≡ kind
   seen : sees v c ≡ true
   found : find (is_at kind c.id) cs ≡ Some c
 
-known_each : (v : Viewer) (kind : Kind) (base : List ℕ) (store : Store) → IsStore base store
-    → All (Known v kind store.resources) (filter (sees v) (of_kind kind store.resources))
-known_each v kind base store is k d lt =
-    let cs = store.resources in
-    let own : All (λ c. is_of kind c ≡ true) (of_kind kind cs) = filter_passes (is_of kind) cs in
-    let parts : All IsPart (of_kind kind cs) = All-filter (is_of kind) IsPart cs (parts_of base store is) in
-    let of_own = All-filter (sees v) (λ c. is_of kind c ≡ true) (of_kind kind cs) own k d lt in
+known_each : (v : Viewer) (walk : Walk) (base : List ℕ) (store : Store) → IsStore base store
+    → All (Known v walk.kind store.resources) (filter (sees v) (walked walk store.resources))
+known_each v walk base store is k d lt =
+    let ds = walked walk store.resources in
     record {
-      part = All-filter (sees v) IsPart (of_kind kind cs) parts k d lt;
-      is_kind = same_true the_kind tt _ kind of_own;
-      seen = filter_passes (sees v) (of_kind kind cs) k d lt;
-      found = All-filter (sees v) (λ c. find (is_at kind c.id) cs ≡ Some c) (of_kind kind cs) (kind_found base store is kind) k d lt;
+      part = All-filter (sees v) IsPart ds (walked_parts base store is walk) k d lt;
+      is_kind = All-filter (sees v) (λ c. c.kind ≡ walk.kind) ds (walked_kind walk store.resources) k d lt;
+      seen = filter_passes (sees v) ds k d lt;
+      found = All-filter (sees v) (λ c. find (is_at walk.kind c.id) store.resources ≡ Some c) ds (walked_found base store is walk) k d lt;
     }
 
 module _ (v : Viewer) (kind : Kind) (cs : List Content) where
@@ -130,9 +148,9 @@ module _ (v : Viewer) (kind : Kind) (cs : List Content) where
         ap (λ es. d ∷ es) rest.1,
       )
 
-pub all_seen : (v : Viewer) (kind : Kind) (base : List ℕ) (store : Store) → IsStore base store
-    → (xs : List (SeenResource v kind store.resources)) × (map (λ x. x.own) xs ≡ filter (sees v) (of_kind kind store.resources))
-all_seen v kind base store is = with_known v kind store.resources _ (known_each v kind base store is)
+pub all_seen : (v : Viewer) (walk : Walk) (base : List ℕ) (store : Store) → IsStore base store
+    → (xs : List (SeenResource v walk.kind store.resources)) × (map (λ x. x.own) xs ≡ filter (sees v) (walked walk store.resources))
+all_seen v walk base store is = with_known v walk.kind store.resources _ (known_each v walk base store is)
 
 -- ---- pages
 
@@ -144,28 +162,28 @@ alike_seen : (v : Viewer) (query : Query) (gs : List Content) (c : Content) → 
 unfolding with_groups
 alike_seen v query gs c part none = seen_alike query (read_in v c) v.base (seen v gs) c part none
 
-module _ (v : Viewer) (kind : Kind) (gs : List Content) (query : Query) (base : List ℕ) (store : Store) (is : IsStore base store) (none : names_groups query ≡ false) where
+module _ (v : Viewer) (walk : Walk) (gs : List Content) (query : Query) (base : List ℕ) (store : Store) (is : IsStore base store) (none : names_groups query ≡ false) where
   abbrev cs : List Content
-  cs = of_kind kind store.resources
+  cs = walked walk store.resources
 
-  abbrev small_of : SeenResource v kind store.resources → Content
+  abbrev small_of : SeenResource v walk.kind store.resources → Content
   small_of x = small v query x.own
 
-  abbrev whole_of : SeenResource v kind store.resources → Content
+  abbrev whole_of : SeenResource v walk.kind store.resources → Content
   whole_of x = with_groups v gs x.own
 
   -- what is made of all that is seen, by the list of those
-  made_seen : (make : Content → Content) → made_of_all make v cs ≡ map (λ x. make x.own) (all_seen v kind base store is).0
+  made_seen : (make : Content → Content) → made_of_all make v cs ≡ map (λ x. make x.own) (all_seen v walk base store is).0
   made_seen make =
-      let xs = all_seen v kind base store is in
-      made_map make v cs ∙ ap (map make) (sym xs.1) ∙ map-map make (λ (x : SeenResource v kind store.resources). x.own) xs.0
+      let xs = all_seen v walk base store is in
+      made_map make v cs ∙ ap (map make) (sym xs.1) ∙ map-map make (λ (x : SeenResource v walk.kind store.resources). x.own) xs.0
 
   -- the page by small parts shows some resources; the same with these whole is the page of the view
   pub page_by_small : (found : Page) → IsPage (made_of_all (small v query) v cs) query found
-      → (shown : List (SeenResource v kind store.resources)) × (found.items.items ≡ map small_of shown)
+      → (shown : List (SeenResource v walk.kind store.resources)) × (found.items.items ≡ map small_of shown)
       × ((page : Page) → page.total ≡ found.total → page.start ≡ found.start → page.items.items ≡ map whole_of shown → IsPage (views v gs cs) query page)
   page_by_small found paged =
-      let xs = (all_seen v kind base store is).0 in
+      let xs = (all_seen v walk base store is).0 in
       let chosen = alike_pages query small_of whole_of (λ x. alike_seen v query gs x.own x.part none) xs found
       (subst (λ (ps : List Content). IsPage ps query found) (made_seen (small v query)) paged) in (
         chosen.0,
@@ -180,20 +198,20 @@ pub named_sight : (viewer : Bor ViewerInCode) (attributes : Bor (List Attribute)
 named_sight viewer attributes patterns builder are same = subst (IsViewBuilder []) (sym same) (record { patterns = are; index = tt })
 
 -- the page by what is made at a sight of the attributes that a query names
-pub named_page : (viewer : Bor ViewerInCode) (kind : Kind) (query : Query) (base : List ℕ) (store : Store) → IsStore base store → (attributes : Bor (List Attribute)) → attributes.now ≡ attributes_of query
+pub named_page : (viewer : Bor ViewerInCode) (walk : Walk) (query : Query) (base : List ℕ) (store : Store) → IsStore base store → (attributes : Bor (List Attribute)) → attributes.now ≡ attributes_of query
     → names_groups query ≡ false → (found : Page) (patterns : Bor ReadPatterns) (builder : ViewBuilder) → ArePatterns (viewer_of viewer.now) patterns.now
     → builder ≡ record { viewer = viewer; patterns = patterns; scope = Named attributes }
-    → (IsViewBuilder [] builder → IsPage (made_of_kind [] builder kind store.resources) query found)
-    → (shown : List (SeenResource (viewer_of viewer.now) kind store.resources)) × (found.items.items ≡ map (λ x. small (viewer_of viewer.now) query x.own) shown)
+    → (IsViewBuilder [] builder → IsPage (made_of_walk [] builder walk store.resources) query found)
+    → (shown : List (SeenResource (viewer_of viewer.now) walk.kind store.resources)) × (found.items.items ≡ map (λ x. small (viewer_of viewer.now) query x.own) shown)
     × ((page : Page) → page.total ≡ found.total → page.start ≡ found.start → page.items.items ≡ map (λ x. with_groups (viewer_of viewer.now) (of_kind Group store.resources) x.own) shown
-    → IsPage (views (viewer_of viewer.now) (of_kind Group store.resources) (of_kind kind store.resources)) query page)
-named_page viewer kind query base store is attributes named none found patterns builder are same paged =
+    → IsPage (views (viewer_of viewer.now) (of_kind Group store.resources) (walked walk store.resources)) query page)
+named_page viewer walk query base store is attributes named none found patterns builder are same paged =
     let v = viewer_of viewer.now in
-    let cs = of_kind kind store.resources in
+    let cs = walked walk store.resources in
     let known = named_sight viewer attributes patterns builder are same in
     let made_here : IsPage (made_of_all (λ (c : Content). visible_attributes attributes.now (read_in v c) c) v cs) query found
-    = subst (λ (s : ViewBuilder). IsPage (made_of_kind [] s kind store.resources) query found) same (paged known) in
-    page_by_small v kind (of_kind Group store.resources) query base store is none found
+    = subst (λ (s : ViewBuilder). IsPage (made_of_walk [] s walk store.resources) query found) same (paged known) in
+    page_by_small v walk (of_kind Group store.resources) query base store is none found
     (subst (λ (those : List Attribute). IsPage (made_of_all (λ (c : Content). visible_attributes those (read_in v c) c) v cs) query found) named made_here)
 
 -- the parts have the ids of the resources
@@ -263,14 +281,11 @@ none_match f v gs (c ∷ cs) never =
     ]
 
 -- the page of none is that of the view, where no resource of the kind can match
-pub none_matches : (v : Viewer) (kind : Kind) (gs : List Content) (f : Option Filter) (base : List ℕ) (store : Store) → IsStore base store
-    → ((c : Content) → IsPart c → c.kind ≡ kind → sees v c ≡ true → is_match f (with_groups v gs c) ≡ false)
-    → [] ≡ matching f (views v gs (of_kind kind store.resources))
-none_matches v kind gs f base store is never =
-    let cs = of_kind kind store.resources in
-    let parts : All IsPart cs = All-filter (is_of kind) IsPart store.resources (parts_of base store is) in
-    let own : All (λ c. is_of kind c ≡ true) cs = filter_passes (is_of kind) store.resources in
-    none_match f v gs cs (λ k d lt. never _ (parts k d lt) (same_true the_kind tt _ kind (own k d lt)))
+pub none_matches : (v : Viewer) (walk : Walk) (gs : List Content) (f : Option Filter) (base : List ℕ) (store : Store) → IsStore base store
+    → ((c : Content) → IsPart c → c.kind ≡ walk.kind → sees v c ≡ true → is_match f (with_groups v gs c) ≡ false)
+    → [] ≡ matching f (views v gs (walked walk store.resources))
+none_matches v walk gs f base store is never =
+    none_match f v gs (walked walk store.resources) (λ k d lt. never _ (walked_parts base store is walk k d lt) (walked_kind walk store.resources k d lt))
 
 -- ---- patterns that are kept
 

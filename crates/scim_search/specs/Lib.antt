@@ -5,3 +5,4 @@ pub mod ReadPatterns
 pub mod ViewBuilders
 pub mod Visits
 pub mod Walks
+pub mod Unfiltered

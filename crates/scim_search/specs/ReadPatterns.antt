@@ -1,5 +1,5 @@
 -- The patterns of a viewer's reading of the resources of a kind.
-use Rattle.std.specs.Prelude.{◌≡◌, List}
+use Rattle.std.specs.Prelude.{◌≡◌, true, List}
 use Rattle.scim_schema.specs.declared.Kind.{Kind}
 use Rattle.scim_schema.specs.declared.Leaf.{Leaf}
 use Rattle.scim_cell.specs.Content.{Content}
@@ -7,7 +7,7 @@ use Rattle.scim_policy.specs.declared.patterns.Patterns.{Patterns}
 use Rattle.scim_policy.specs.Patterns.{PatternRule}
 use Rattle.scim_policy.specs.PatternTable.{rules_in}
 use Rattle.scim_policy.specs.Selected.{rules_by}
-use Rattle.scim_view.specs.View.{Viewer, read_rules}
+use Rattle.scim_view.specs.View.{Viewer, read_rules, sees}
 use Rattle.scim_search.specs.declared.read_patterns.Form.{Form}
 use Rattle.scim_search.specs.declared.read_patterns.Form.TheVariants.{Alike, ByTarget}
 use Rattle.scim_search.specs.declared.read_patterns.ReadPatterns.{ReadPatterns}
@@ -29,3 +29,7 @@ AreRulesBy v kind (ByTarget selected) = AreRulesOn v kind (rules_by selected)
 -- the patterns are those of the viewer's reading of the resources of their kind, by the policy
 abbrev pub ArePatterns : Viewer → ReadPatterns → Type 0
 ArePatterns v patterns = AreRulesBy v patterns.kind patterns.form
+
+-- the viewer of the patterns sees each resource of their kind
+abbrev pub ShowAll : ReadPatterns → Type 0
+ShowAll patterns = (v : Viewer) → ArePatterns v patterns → (c : Content) → c.kind ≡ patterns.kind → sees v c ≡ true

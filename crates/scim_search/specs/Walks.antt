@@ -1,5 +1,5 @@
--- Searches over all resources of a kind.
-use Rattle.std.specs.Prelude.{◌≡◌, true, List, Some, map, find}
+-- Searches over all resources of a kind, or over all that have a text.
+use Rattle.std.specs.Prelude.{◌≡◌, Bool, true, List, Option, None, Some, map, find, filter}
 use Rattle.scim_schema.specs.declared.Kind.{Kind}
 use Rattle.scim_schema.specs.declared.Kind.TheVariants.{Group}
 use Rattle.scim_cell.specs.Content.{Content, IsPart}
@@ -8,12 +8,23 @@ use Rattle.scim_view.specs.declared.group_index.GroupIndex.{GroupIndex}
 use Rattle.scim_view.specs.View.{Viewer, viewer_of, sees}
 use Rattle.scim_view.specs.Groups.{with_groups}
 use Rattle.scim_view.specs.Indexes.{IsIndexOf}
-use Rattle.scim_shelf.specs.Stores.{is_at}
+use Rattle.scim_shelf.specs.Stores.{has_text, is_at}
+use Rattle.scim_search.specs.declared.texts.IndexedText.{IndexedText}
 use Rattle.scim_search.specs.declared.view_builders.ViewBuilder.{ViewBuilder}
+use Rattle.scim_search.specs.declared.walks.Walk.{Walk}
 use Rattle.scim_search.specs.declared.whole_items.ItemBuilder.{ItemBuilder}
 use Rattle.scim_search.specs.PatternCache.{Recalls}
 use Rattle.scim_search.specs.ReadPatterns.{ArePatterns}
 use Rattle.scim_search.specs.ViewBuilders.{made, made_of_all}
+
+-- whether a resource has the text at the indexed leaf; always true if no text is given
+abbrev pub is_walked : Option IndexedText → Content → Bool
+is_walked None c = true
+is_walked (Some t) c = has_text t.leaf t.text.now c
+
+-- the resources that a search reads, in order of id
+abbrev pub walked : Walk → List Content → List Content
+walked walk cs = filter (is_walked walk.text) (of_kind walk.kind cs)
 
 -- with the groups of the index, the viewer has the same view of each resource of the kind as with all groups
 -- of the store
@@ -22,9 +33,9 @@ pub record IndexTells (v : Viewer) (kind : Kind) (cs : List Content) (index : Gr
   pub is_index : IsIndexOf v groups index
   pub same : (c : Content) → c.kind ≡ kind → with_groups v groups c ≡ with_groups v (of_kind Group cs) c
 
--- the parts that a builder builds, one for each resource of the kind that its viewer sees
-abbrev pub made_of_kind : List Content → ViewBuilder → Kind → List Content → List Content
-made_of_kind groups builder kind cs = made_of_all (made (viewer_of builder.viewer.now) groups builder.scope) (viewer_of builder.viewer.now) (of_kind kind cs)
+-- the parts that a builder builds, one for each resource of the walk that its viewer sees
+abbrev pub made_of_walk : List Content → ViewBuilder → Walk → List Content → List Content
+made_of_walk groups builder walk cs = made_of_all (made (viewer_of builder.viewer.now) groups builder.scope) (viewer_of builder.viewer.now) (walked walk cs)
 
 -- the patterns of the builder and its cached patterns are those of the viewer's reading
 pub record IsItemBuilder (cs : List Content) (builder : ItemBuilder) : Type 0 where

@@ -7,6 +7,8 @@ mod lookups;
 mod pages;
 mod pattern_cache;
 mod read_patterns;
+mod texts;
+mod unfiltered;
 mod view_builders;
 mod visitors;
 mod walks;

@@ -14,31 +14,26 @@ ghost use Rattle.scim_shelf.specs.Stores.{has_name, is_at};
 ghost use Rattle.scim_search.specs.Lookups as spec;
 
 use crate::groups_of_resource::view_beside;
+use crate::texts::compared_text;
 use crate::visitors::ListingVisitor;
 use scim_cell::Id;
 use scim_filter_grammar::StringLiteral;
 use scim_query::{Page, Pager, Query};
-use scim_schema::{Attribute, Kind, Leaf, is_case_exact, unique_leaves};
+use scim_schema::{Attribute, Kind, Leaf, unique_leaves};
 use scim_shelf::{Shelf, ShelfFault};
 use scim_text::{Failed, NoMemory};
 use scim_value::{Part, Resource, UniqueName};
 use scim_view::Viewer;
 use std::alloc::Global;
 
-/// Returns the unique name for a text at a leaf.
-/// The text is case-folded unless the leaf is caseExact (RFC 7643 section 2.2).
+/// Returns the unique name for a text at a leaf, as comparisons use it.
 fn known_name(alloc: Global, leaf: Leaf, text: &StringLiteral) -> Result<UniqueName, NoMemory>
     ensures leaf { IfOk result (λ name. name.leaf ≡ leaf) }
     ensures text { IfOk result (λ name. (name_of name).text ≡ cased (is_case_exact leaf) text.now) }
 {
-    let known = if is_case_exact(leaf) {
-        text.as_str()
-    } else {
-        text.folded()
-    };
     Ok(UniqueName {
         leaf,
-        text: String::from_str(alloc, known)?,
+        text: String::from_str(alloc, compared_text(leaf, text))?,
     })
 }
 

@@ -7,7 +7,7 @@ ghost use Rattle.scim_query.specs.Pages.{IsPage};
 ghost use Rattle.scim_shelf.specs.Shelves.{IsReadFrom, OnlyReads};
 
 use crate::lookups::{needed_id, needed_name, page_named, page_with_id};
-use crate::walks::page_of_all;
+use crate::walks::{Walk, page_of_walk};
 use scim_query::{Page, Query};
 use scim_schema::Kind;
 use scim_shelf::{Shelf, ShelfFault};
@@ -17,7 +17,9 @@ use std::alloc::Global;
 
 /// Returns the page of the client's query over the client's view of the resources of a kind (RFC 7644 section
 /// 3.4.2). If the query requires an id or a unique name, only the resource with that id or name and the
-/// groups that list it are read. Otherwise all resources of the kind are read.
+/// groups that list it are read. Otherwise, if the query requires a text at an indexed leaf, only the resources
+/// of the kind that have this text are searched, and else all resources of the kind. If the query has no filter
+/// and no sort key, and the client sees all resources of the kind, only the items of the page are read.
 ///
 /// Fails with the errors of the shelf.
 pub fn page_of_query<S: Shelf>(
@@ -37,6 +39,6 @@ pub fn page_of_query<S: Shelf>(
     }
     match needed_name(alloc, kind, query)? {
         Some(name) => page_named(alloc, viewer, shelf, kind, &name, query),
-        None => page_of_all(alloc, viewer, shelf, kind, query),
+        None => page_of_walk(alloc, viewer, shelf, &Walk::of(kind, query), query),
     }
 }

@@ -7,7 +7,7 @@ ghost use Rattle.scim_view.specs.Groups.{with_groups};
 ghost use Rattle.scim_query.specs.Pages.{is_match};
 ghost use Rattle.scim_shelf.specs.Stores.{is_at};
 ghost use Rattle.scim_search.specs.PatternCache.{Recalls};
-ghost use Rattle.scim_search.specs.ReadPatterns.{AreFor, ArePatterns};
+ghost use Rattle.scim_search.specs.ReadPatterns.{AreFor, ArePatterns, ShowAll};
 
 use crate::pattern_cache::PatternCache;
 use scim_policy::{Patterns, ReadingRules};
@@ -102,6 +102,16 @@ impl<'a> ReadPatterns<'a> {
                 rules.patterns(alloc, resource)
             }
             _ => viewer.patterns(alloc, resource),
+        }
+    }
+
+    /// Whether the client sees all resources of the kind. False if the patterns differ by resource.
+    pub(crate) fn show_all(&self) -> bool
+        ensures { result ≡ true → ShowAll self.now }
+    {
+        match &self.form {
+            Form::Alike(patterns) => shows_id(patterns),
+            Form::ByTarget(_) => false,
         }
     }
 

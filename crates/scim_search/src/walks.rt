@@ -1,5 +1,6 @@
-//! Searches that read all resources of a kind.
-ghost use Rattle.std.specs.Prelude.{◌≡◌, false, ℕ, List, [], IfOk};
+//! Searches that read all resources of a kind, or all that have a text at an indexed leaf.
+ghost use Rattle.std.specs.Prelude.{◌≡◌, false, ℕ, List, [], IfOk, OnOk};
+ghost use Rattle.std.specs.List.{FoldsTo};
 ghost use Rattle.scim_schema.specs.declared.Kind.{Kind};
 ghost use Rattle.scim_cell.specs.Content.{Content};
 ghost use Rattle.scim_cell.specs.Kinds.{of_kind};
@@ -9,13 +10,17 @@ ghost use Rattle.scim_view.specs.Indexes.{IsIndexOf};
 ghost use Rattle.scim_query.specs.NamedAttributes.{attributes_of, names_groups};
 ghost use Rattle.scim_query.specs.Pages.{IsPage};
 ghost use Rattle.scim_shelf.specs.Shelves.{Answers, IsReadFrom, OnlyReads};
-ghost use Rattle.scim_shelf.specs.Stores.{IsStore};
+ghost use Rattle.scim_shelf.specs.Stores.{Store, IsStore};
+ghost use Rattle.scim_search.specs.Lookups.{OnlyThose};
 ghost use Rattle.scim_search.specs.PatternCache.{Recalls};
 ghost use Rattle.scim_search.specs.ReadPatterns.{ArePatterns};
 ghost use Rattle.scim_search.specs.ViewBuilders as sights;
+ghost use Rattle.scim_search.specs.Visits.{TakesResource};
 ghost use Rattle.scim_search.specs.Walks as spec;
 
 use crate::read_patterns::ReadPatterns;
+use crate::texts::{IndexedText, needed_indexed_text};
+use crate::unfiltered::{is_of_all, page_of_window};
 use crate::view_builders::{ViewBuilder, ViewScope};
 use crate::visitors::{Found, GroupVisitor, SearchVisitor};
 use crate::whole_items::{ItemBuilder, whole_items};
@@ -25,6 +30,49 @@ use scim_shelf::{Shelf, ShelfFault};
 use scim_text::Failed;
 use scim_view::{GroupIndex, Viewer};
 use std::alloc::Global;
+
+/// The resources that a search reads: those of the kind or, if there is a text, those of the kind that have
+/// this text.
+#[derive(Clone, Copy)]
+pub(crate) struct Walk<'a> {
+    kind: Kind,
+    text: Option<IndexedText<'a>>,
+}
+
+impl<'a> Walk<'a> {
+    /// Returns the resources of the kind that a search with this query reads. No other resource of the kind can
+    /// match.
+    pub(crate) fn of(kind: Kind, query: &'a Query) -> Walk<'a>
+        ensures kind { result.kind ≡ kind }
+        ensures only { OnlyThose kind query.now.filter (spec.is_walked result.text) }
+    {
+        Walk {
+            kind,
+            text: needed_indexed_text(kind, query),
+        }
+    }
+
+    /// Passes the resources to the visitor, in order of id.
+    ///
+    /// Fails with the errors of the shelf.
+    fn show<S: Shelf>(
+        &self,
+        alloc: Global,
+        shelf: &mut S,
+        visitor: &mut SearchVisitor<'_>,
+    ) -> Result<(), Failed<ShelfFault>>
+        ensures answer { OnOk result ((store : Store) → S.stands shelf.old store
+            → S.is_honest shelf.new
+            → FoldsTo TakesResource visitor.old (spec.walked self.now store.resources)
+            visitor.new) }
+        ensures read { OnlyReads S.stands S.is_honest S.failures shelf.old shelf.new result }
+    {
+        match self.text {
+            Some(known) => shelf.each_with(alloc, self.kind, known.leaf, known.text, visitor),
+            None => shelf.each(alloc, self.kind, visitor),
+        }
+    }
+}
 
 /// Returns an index, by member, of the groups that the client sees.
 fn seen_groups<S: Shelf>(
@@ -60,23 +108,25 @@ fn groups_for<S: Shelf>(
 }
 
 /// Returns the page of the query over the parts that the builder builds, and the cached patterns. The
-/// builder builds one part for each resource of the kind that its viewer sees.
+/// builder builds one part for each resource of the walk that its viewer sees.
 fn page_made<'a, S: Shelf>(
     alloc: Global,
     builder: ViewBuilder<'a>,
     shelf: &mut S,
-    kind: Kind,
+    walk: &Walk<'_>,
     query: &'a Query,
 ) -> Result<Found<'a>, Failed<ShelfFault>>
     ensures page { IfOk result (Answers S.stands S.is_honest shelf.old shelf.new
         (λ store found. (groups : List Content) (base : List ℕ)
         → sights.IsViewBuilder groups builder.entry → IsStore base store
-        → IsPage (spec.made_of_kind groups builder.entry kind store.resources) query.now found.page
-        × Recalls (viewer_of builder.entry.viewer.now) kind store.resources found.cached)) }
+        → IsPage (spec.made_of_walk groups builder.entry walk.now store.resources) query.now
+        found.page
+        × Recalls (viewer_of builder.entry.viewer.now) walk.now.kind store.resources
+        found.cached)) }
     ensures read { OnlyReads S.stands S.is_honest S.failures shelf.old shelf.new result }
 {
     let mut search = SearchVisitor::new(alloc, builder, query);
-    shelf.each(alloc, kind, &mut search)?;
+    walk.show(alloc, shelf, &mut search)?;
     Ok(search.end()?)
 }
 
@@ -87,18 +137,18 @@ fn page_by_groups<S: Shelf>(
     viewer: &Viewer<'_>,
     patterns: &ReadPatterns<'_>,
     shelf: &mut S,
-    kind: Kind,
+    walk: &Walk<'_>,
     query: &Query,
 ) -> Result<Page, Failed<ShelfFault>>
     requires { ArePatterns (viewer_of viewer.now) patterns.now }
     ensures page { IsReadFrom S.stands S.is_honest shelf.old shelf.new result (λ store page.
         IsPage (views (viewer_of viewer.now) (of_kind Kind.Group store.resources)
-        (of_kind kind store.resources)) query.now page) }
+        (spec.walked walk.now store.resources)) query.now page) }
     ensures read { OnlyReads S.stands S.is_honest S.failures shelf.old shelf.new result }
 {
-    let index = groups_for(alloc, viewer, shelf, kind)?;
+    let index = groups_for(alloc, viewer, shelf, walk.kind)?;
     let builder = ViewBuilder::new(viewer, patterns, ViewScope::Whole(&index));
-    Ok(page_made(alloc, builder, shelf, kind, query)?.page)
+    Ok(page_made(alloc, builder, shelf, walk, query)?.page)
 }
 
 /// Returns the page of a query that names only `attributes`, and not `groups`. The search evaluates only
@@ -108,7 +158,7 @@ fn page_by_named<S: Shelf>(
     viewer: &Viewer<'_>,
     patterns: &ReadPatterns<'_>,
     shelf: &mut S,
-    kind: Kind,
+    walk: &Walk<'_>,
     attributes: &[Attribute],
     query: &Query,
 ) -> Result<Page, Failed<ShelfFault>>
@@ -117,15 +167,15 @@ fn page_by_named<S: Shelf>(
     requires no_groups { names_groups query.now ≡ false }
     ensures page { IsReadFrom S.stands S.is_honest shelf.old shelf.new result (λ store page.
         IsPage (views (viewer_of viewer.now) (of_kind Kind.Group store.resources)
-        (of_kind kind store.resources)) query.now page) }
+        (spec.walked walk.now store.resources)) query.now page) }
     ensures read { OnlyReads S.stands S.is_honest S.failures shelf.old shelf.new result }
 {
     let builder = ViewBuilder::new(viewer, patterns, ViewScope::Named(attributes));
-    let found = page_made(alloc, builder, shelf, kind, query)?;
+    let found = page_made(alloc, builder, shelf, walk, query)?;
     if found.page.items.as_slice().is_empty() {
         return Ok(found.page);
     }
-    let builder = ItemBuilder::new(viewer, kind, patterns, &found.cached);
+    let builder = ItemBuilder::new(viewer, walk.kind, patterns, &found.cached);
     let items = whole_items(alloc, builder, shelf, found.page.items.as_slice())?;
     Ok(Page {
         total: found.page.total,
@@ -134,28 +184,31 @@ fn page_by_named<S: Shelf>(
     })
 }
 
-/// Returns the page of the client's query over all resources of a kind. If no resource can match, none is
-/// read.
-pub(crate) fn page_of_all<S: Shelf>(
+/// Returns the page of the client's query over the resources of the walk. If no resource of the kind can match,
+/// none is read. If the client sees all resources of the kind and all match, only the items are read.
+pub(crate) fn page_of_walk<S: Shelf>(
     alloc: Global,
     viewer: &Viewer<'_>,
     shelf: &mut S,
-    kind: Kind,
+    walk: &Walk<'_>,
     query: &Query,
 ) -> Result<Page, Failed<ShelfFault>>
     ensures page { IsReadFrom S.stands S.is_honest shelf.old shelf.new result (λ store page.
         IsPage (views (viewer_of viewer.now) (of_kind Kind.Group store.resources)
-        (of_kind kind store.resources)) query.now page) }
+        (spec.walked walk.now store.resources)) query.now page) }
     ensures read { OnlyReads S.stands S.is_honest S.failures shelf.old shelf.new result }
 {
-    let patterns = ReadPatterns::of(alloc, viewer, kind)?;
+    let patterns = ReadPatterns::of(alloc, viewer, walk.kind)?;
     if !patterns.may_find(query) {
         return Ok(Pager::new(alloc, query).end()?);
     }
+    if walk.text.is_none() && is_of_all(&patterns, query) {
+        return page_of_window(alloc, viewer, &patterns, shelf, walk.kind, query);
+    }
     let attributes = query.attributes(alloc)?;
     if attributes.contains(&Attribute::Groups) {
-        return page_by_groups(alloc, viewer, &patterns, shelf, kind, query);
+        return page_by_groups(alloc, viewer, &patterns, shelf, walk, query);
     }
     let attributes = attributes.as_slice();
-    page_by_named(alloc, viewer, &patterns, shelf, kind, attributes, query)
+    page_by_named(alloc, viewer, &patterns, shelf, walk, attributes, query)
 }

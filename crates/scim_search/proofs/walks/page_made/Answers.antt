@@ -9,30 +9,32 @@ use Rattle.scim_query.specs.Pages.{IsPage}
 use Rattle.scim_query.specs.Pagers.{HasTaken}
 use Rattle.scim_search.specs.declared.view_builders.ViewBuilder.{ViewBuilder}
 use Rattle.scim_search.specs.ViewBuilders.{made, IsViewBuilder}
-use Rattle.scim_search.specs.Walks.{made_of_kind}
+use Rattle.scim_search.specs.Walks.{is_walked, made_of_walk, walked}
 use Rattle.scim_search.proofs.StoreViews.{made_id, made_ascends, strict_sorted}
 use Rattle.scim_search.specs.PatternCache.{Recalls}
 use Rattle.scim_search.proofs.VisitLemmas.{took_resources}
-use Rattle.scim_search.proofs.WalkLemmas.{kind_found}
+use Rattle.scim_search.proofs.WalkLemmas.{walked_found}
 use Rattle.scim_search.proofs.walks.page_made.Goals as goal
 
 pub returns-clause-page : goal.returns-clause-page
 returns-clause-page g c store stands honest groups base is valid =
-    let kind = c.args.kind in
+    let walk = c.args.walk.now in
+    let kind = walk.kind in
+    let those = walked walk store.resources in
     let builder = c.args.builder in
     let viewer = viewer_of builder.viewer.now in
     let make = made viewer groups builder.scope in
-    let parts = made_of_kind groups builder kind store.resources in
+    let parts = made_of_walk groups builder walk store.resources in
     let first = c.new-search.result in
     let fresh = c.new-search.ensures in
-    let last = c.each.new.visitor in
-    let walk = took_resources first (of_kind kind store.resources) last (c.in_ok-each.ensures.answer store stands honest) in
+    let last = c.show.new.visitor in
+    let took = took_resources first those last (c.in_ok-show.ensures.answer store stands honest) in
     let taken : HasTaken parts last.pager =
-    subst (λ (s : ViewBuilder). HasTaken (made_of_kind groups s kind store.resources) last.pager) fresh.builder
-    (walk.taken groups [] (subst (IsViewBuilder groups) (sym fresh.builder) is) fresh.taken) in
-    let ascend = strict_sorted parts (made_ascends make viewer (made_id viewer groups builder.scope) (of_kind kind store.resources)
-    (IsStrictlySortedBy-filter id_cmp (is_of kind) store.resources valid.keyed.ascending)) in
-    let kept = walk.cached groups store.resources kind (subst (IsViewBuilder groups) (sym fresh.builder) is) (kind_found base store valid kind) (fresh.cached (viewer_of first.builder.viewer.now) kind store.resources) in (
-      subst (λ (q : Bor Query). IsPage parts q.now c.in_ok-end.field-0.page) (walk.query ∙ fresh.query) (c.in_ok-end.ensures.page parts taken (λ e. ascend)),
+    subst (λ (s : ViewBuilder). HasTaken (made_of_walk groups s walk store.resources) last.pager) fresh.builder
+    (took.taken groups [] (subst (IsViewBuilder groups) (sym fresh.builder) is) fresh.taken) in
+    let ascend = strict_sorted parts (made_ascends make viewer (made_id viewer groups builder.scope) those
+    (IsStrictlySortedBy-filter id_cmp (is_walked walk.text) (of_kind kind store.resources) (IsStrictlySortedBy-filter id_cmp (is_of kind) store.resources valid.keyed.ascending))) in
+    let kept = took.cached groups store.resources kind (subst (IsViewBuilder groups) (sym fresh.builder) is) (walked_found base store valid walk) (fresh.cached (viewer_of first.builder.viewer.now) kind store.resources) in (
+      subst (λ (q : Bor Query). IsPage parts q.now c.in_ok-end.field-0.page) (took.query ∙ fresh.query) (c.in_ok-end.ensures.page parts taken (λ e. ascend)),
       subst (Recalls viewer kind store.resources) (sym c.in_ok-end.ensures.cached) (subst (λ (s : ViewBuilder). Recalls (viewer_of s.viewer.now) kind store.resources last.cached) fresh.builder kept),
     )
