@@ -1,5 +1,5 @@
 -- Values that are among some and not among others.
-use Rattle.std.proofs.Common.{◌≡◌, ◌≢◌, ℕ, refl, sym, ◌∙◌, ap, not, ◌&&◌, ◌||◌, List, [], ◌∷◌, map, filter, arith}
+use Rattle.std.proofs.Common.{◌≡◌, ◌≢◌, ℕ, refl, sym, ◌∙◌, ap, not, ◌&&◌, ◌||◌, List, [], ◌∷◌, ◌-◌, length, take, drop, map, filter, arith}
 use Rattle.std.specs.Prelude.{AllPairs}
 use Rattle.std.specs.Ordering.{nat_cmp, is_eq}
 use Rattle.std.specs.declared.cmp.Ordering.TheVariants.{Less}
@@ -13,8 +13,13 @@ use Rattle.std.proofs.lemmas.Map.Keys.{sorted_head, sorted_tail}
 use Rattle.std.proofs.lemmas.Map.Text.{is_eq-slice_cmp}
 use denote.Ref.{Bor}
 use Rattle.sqlite_trees.proofs.ListLemmas.{filter-map}
-use Rattle.scim_shelf.specs.Members.{is_in}
-use Rattle.scim_shelf.proofs.Facts.{ids_differ}
+use Rattle.scim_schema.specs.declared.Attribute.TheVariants.{Members}
+use Rattle.scim_schema.specs.declared.SubAttribute.TheVariants.{Value}
+use Rattle.scim_schema.specs.Units.{leaf_at}
+use Rattle.scim_cell.specs.Rows.{Row}
+use Rattle.scim_shelf.specs.Members.{is_in, is_value_of}
+use Rattle.scim_shelf.specs.Stores.{has_text_in}
+use Rattle.scim_shelf.proofs.Facts.{ids_differ, exact_values, beyond_shared, left_beyond}
 use Rattle.scim_store_rows.specs.Stands.{is_among}
 use Rattle.scim_store.proofs.EntryLemmas.{staying, among_staying}
 
@@ -43,3 +48,17 @@ once_each (t ∷ ts) sorted =
     AllPairs-cons (λ v w. v ≢ w) t.now (texts_of ts)
     (All-map (λ w. t.now ≢ w) (λ (s : Bor (List ℕ)). s.now) ts (All-weaker (λ (s : Bor (List ℕ)). slice_cmp nat_cmp t.now s.now ≡ Less) (λ s. t.now ≢ s.now) (λ s less. ids_differ t.now s.now less) ts (All-from_recursion (λ (s : Bor (List ℕ)). slice_cmp nat_cmp t.now s.now ≡ Less) ts (sorted_head (λ (r s : Bor (List ℕ)). slice_cmp nat_cmp r.now s.now) t ts sorted))))
     (once_each ts (sorted_tail (λ (r s : Bor (List ℕ)). slice_cmp nat_cmp r.now s.now) t ts sorted))
+
+-- where the first k of two lists of members have the same values, what the others lack are values of the members after k
+pub lacking_after : (v : List ℕ) (members others : List Row) (k : ℕ) → is_value_of v (take k others) ≡ is_value_of v (take k members)
+    → (is_value_of v (take (length members - k) (drop k members)) && not (is_value_of v others)) ≡ (is_value_of v members && not (is_value_of v others))
+lacking_after v members others k same =
+    let leaf = leaf_at Members Value in
+    let exact = exact_values v in
+    let rest = take (length members - k) (drop k members) in
+    let shared : has_text_in leaf v (take k others) ≡ has_text_in leaf v (take k members) =
+    exact (take k others) ∙ same ∙ sym (exact (take k members)) in
+    left_beyond (is_value_of v rest) (is_value_of v members) (is_value_of v others)
+    ((λ i. sym (exact rest) i || sym (exact others) i)
+    ∙ beyond_shared leaf v members others k shared
+    ∙ (λ i. exact members i || exact others i))

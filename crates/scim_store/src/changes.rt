@@ -1,21 +1,21 @@
 //! Computes the edits of a change.
 
-ghost use Rattle.std.specs.Prelude.{◌≡◌, ◌≢◌, ◌&&◌, not, ℕ, List, AllPairs, IfOk, Some, map, option_map, string_bytes};
+ghost use Rattle.std.specs.Prelude.{◌≡◌, ◌≢◌, ◌≤◌, ◌&&◌, not, ℕ, List, length, take, AllPairs, IfOk, Some, map, option_map, string_bytes};
 ghost use Rattle.std.specs.Option.{option_copied};
 ghost use Rattle.scim_cell.specs.Content.{Content};
 ghost use Rattle.scim_value.specs.Members.{lists_value};
 ghost use Rattle.scim_value.specs.Resource.{HasBase};
 ghost use Rattle.scim_value.specs.Uniqueness.{name_of};
-ghost use Rattle.scim_shelf.specs.Members.{is_in};
+ghost use Rattle.scim_shelf.specs.Members.{is_in, is_value_of};
 ghost use Rattle.scim_shelf.specs.Stores.{IsOld};
 ghost use Rattle.scim_store_rows.specs.Stands.{is_among};
 ghost use Rattle.scim_store.specs.Edits as spec;
 
 use crate::edits::{Edits, SecretEdit};
-use scim_cell::{Id, Text};
+use scim_cell::{Id, Row, Text};
 use scim_json::{door_code_of, kept_parts};
-use scim_schema::{Attribute, Kind, Unit};
-use scim_shelf::{Change, member_values};
+use scim_schema::{Attribute, Kind, Leaf, SubAttribute, Unit};
+use scim_shelf::{Change, member_values, shared_values};
 use scim_text::{NoMemory, push};
 use scim_value::{Resource, UniqueName, unique_names};
 use std::alloc::Global;
@@ -58,15 +58,25 @@ pub(crate) fn values_of(alloc: Global, resource: &Resource) -> Result<BTreeSet<&
     )
 }
 
-/// Returns the set of the values that the resource lists among its members; empty if there is no resource.
-fn values_in(alloc: Global, resource: Option<&Resource>) -> Result<BTreeSet<&str>, NoMemory>
-    ensures { IfOk result (λ values. (v : List ℕ)
-        → is_in v values ≡ spec.lists_in v (option_copied resource.entry)) }
+/// Returns the members that the resource lists; none if there is no resource.
+fn members_in(resource: Option<&Resource>) -> &[Row]
+    ensures { (v : List ℕ) → is_value_of v result.now
+        ≡ spec.lists_in v (option_copied resource.entry) }
 {
     match resource {
-        Some(resource) => values_of(alloc, resource),
-        None => Ok(BTreeSet::new(alloc)),
+        Some(resource) => resource.part().values(Unit::whole(Attribute::Members)),
+        None => &[],
     }
+}
+
+/// Returns the length of the longest common prefix of two lists of members, compared by their values.
+fn shared_members(some: &[Row], others: &[Row]) -> usize
+    ensures inside { result ≤ length some.now × result ≤ length others.now }
+    ensures same { (v : List ℕ) → is_value_of v (take result some.now)
+        ≡ is_value_of v (take result others.now) }
+{
+    let leaf = Leaf::of(Attribute::Members, SubAttribute::Value);
+    shared_values(leaf, some, others)
 }
 
 /// Returns the values that are in `values`, but not in `others`, each once.
@@ -84,6 +94,30 @@ fn values_beyond<'v>(
         push(&mut beyond, Text::copy_of(alloc, value)?)?;
     }
     Ok(beyond)
+}
+
+/// Returns the values of `members` that no member of `others` has, each once. The first `shared` members of both
+/// lists must have the same values. Builds no set of values if `members` has no further members.
+fn values_after<'m>(
+    alloc: Global,
+    shared: usize,
+    others: &'m [Row],
+    members: &'m [Row],
+) -> Result<Vec<Text>, NoMemory>
+    requires inside { shared ≤ length members.now }
+    requires same { (v : List ℕ) → is_value_of v (take shared others.now)
+        ≡ is_value_of v (take shared members.now) }
+    ensures listed { IfOk result (λ values. (v : List ℕ) → is_among v values.items
+        ≡ (is_value_of v members.now && not (is_value_of v others.now))) }
+    ensures once { IfOk result (λ values. AllPairs (λ v w. v ≢ w) values.items) }
+{
+    let rest = &members[shared..];
+    if rest.is_empty() {
+        return Ok(Vec::new(alloc));
+    }
+    let values = member_values(alloc, rest)?;
+    let others = member_values(alloc, others)?;
+    values_beyond(alloc, &others, &values)
 }
 
 /// Returns the door code of the resource; `None` if there is no resource or it has none.
@@ -133,16 +167,17 @@ fn replacement<'r>(
         → spec.IsWritten base (option_copied new.entry) edits
         → spec.Replaces base id (option_copied old.entry) (option_copied new.entry) edits) }
 {
-    let old_values = values_in(alloc, old)?;
-    let new_values = values_in(alloc, new)?;
+    let old_members = members_in(old);
+    let new_members = members_in(new);
+    let shared = shared_members(old_members, new_members);
     Ok(Edits {
         id: id.text(alloc)?,
         kind,
         document,
         names_gone: names_beyond(alloc, new, old)?,
         names_come: names_beyond(alloc, old, new)?,
-        members_gone: values_beyond(alloc, &new_values, &old_values)?,
-        members_come: values_beyond(alloc, &old_values, &new_values)?,
+        members_gone: values_after(alloc, shared, new_members, old_members)?,
+        members_come: values_after(alloc, shared, old_members, new_members)?,
         secret: secret_edit(code_in(old), door_code),
     })
 }
