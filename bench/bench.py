@@ -13,8 +13,8 @@ from measuring import Bench
 from slapd import slapd
 
 TOP = os.path.dirname(os.path.dirname(os.path.abspath(__file__)))
-SCENARIOS = [scenarios.users, scenarios.members, scenarios.rules, scenarios.values, scenarios.cache, scenarios.memory, scenarios.start,
-             scenarios.replay, scenarios.bodies, slapd]
+SCENARIOS = [scenarios.users, scenarios.connectors, scenarios.members, scenarios.rules, scenarios.values, scenarios.cache,
+             scenarios.memory, scenarios.start, scenarios.replay, scenarios.bodies, slapd]
 
 
 def newest_program():

@@ -21,8 +21,8 @@ def meta(kind):
 
 
 def user(number):
-    """A stored user of fourteen cells. Family names repeat after 10,007 users; ten users have a title with an x."""
-    return {"id": id_of(number), "userName": f"user{number}", "active": True, "displayName": "Barbara Jensen",
+    """A stored user of fifteen cells. Family names repeat after 10,007 users; ten users have a title with an x."""
+    return {"id": id_of(number), "userName": f"user{number}", "externalId": f"HR-{number}", "active": True, "displayName": "Barbara Jensen",
             "emails": [{"primary": True, "type": "work", "value": f"user{number}@example.com"}],
             "name": {"familyName": f"Jensen{number * 7919 % 10007}", "givenName": "Barbara"},
             "title": "Executive" if number < 10 else "Tour Guide", ENTERPRISE: {"department": "Tours"},
@@ -33,7 +33,7 @@ def groups(users, groups_of_user, sizes):
     """Groups of 100, so many that each user is in so many of them; or a group of the first users for each size."""
     ranges = [range(number * 100, number * 100 + 100) for number in range(users * groups_of_user // 100)]
     for number, members in enumerate([range(size) for size in sizes] or ranges):
-        yield {"id": id_of(FIRST_GROUP + number), "displayName": f"Team {number}", "meta": meta("Group"),
+        yield {"id": id_of(FIRST_GROUP + number), "displayName": f"Team {number}", "externalId": f"T-{number}", "meta": meta("Group"),
                "members": [{"value": id_of(member % users)} for member in members]}
 
 
@@ -101,6 +101,41 @@ def get(server, number):
 
 def by_name(server, number):
     return search("Users", f'userName eq "USER{number * 7919 % server.users}"')
+
+
+def by_external_id(server, number):
+    return search("Users", f'externalId eq "HR-{number * 7919 % server.users}"')
+
+
+def by_address(server, number):
+    return search("Users", f'emails.value eq "USER{number * 7919 % server.users}@example.com"')
+
+
+def by_work_address(server, number):
+    return search("Users", f'emails[type eq "work" and value eq "user{number * 7919 % server.users}@example.com"]')
+
+
+def by_group_name(server, number):
+    """A search for one of the groups, without its members."""
+    return search("Groups", f'displayName eq "team {number % (server.users // 100)}"', "&excludedAttributes=members")
+
+
+def by_group_external_id(server, number):
+    return search("Groups", f'externalId eq "T-{number % (server.users // 100)}"', "&excludedAttributes=members")
+
+
+def by_member(server, number):
+    return search("Groups", f'members.value eq "{id_of(number * 7919 % server.users)}"', "&excludedAttributes=members")
+
+
+def by_member_in_brackets(server, number):
+    return search("Groups", f'members[value eq "{id_of(number * 7919 % server.users)}"]', "&excludedAttributes=members")
+
+
+# What connectors ask in each cycle, by the text of one leaf.
+TEXTS = [("externalId", by_external_id), ("emails.value", by_address), ("a value path of emails", by_work_address),
+         ("the name of a group", by_group_name), ("the externalId of a group", by_group_external_id),
+         ("members.value", by_member), ("a value path of members", by_member_in_brackets)]
 
 
 def retitle(server, number):

@@ -36,6 +36,15 @@ def users(bench):
     return table
 
 
+def connectors(bench):
+    """what connectors ask in each cycle, by texts, over 1,000, 10,000 and 100,000 users, each in a group of 100"""
+    table = Table("connectors: processor ms a request, by the number of users", bench.sizes, [(1, 0), (2, 0)])
+    with ExitStack() as stack:
+        servers = [stack.enter_context(bench.server((size, 1))) for size in bench.sizes]
+        add_rows(bench, table, servers, [GET, BY_NAME, *(Ask(f"search by {name}", ask, 100) for name, ask in data.TEXTS)])
+    return table
+
+
 def group_asks(number):
     """What the group of a number is asked."""
     path = f"/Groups/{data.id_of(data.FIRST_GROUP + number)}"
