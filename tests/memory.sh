@@ -167,7 +167,8 @@ serve() {
       status=0
       wait "$server" || status=$?
       server=
-      [ "$status $(cat fault)" = '1 scimd: out of memory' ] || fail "$title" "status $status, $(head -c 300 fault)"
+      # The lines before tell what the server has read.
+      [ "$status $(tail -n 1 fault)" = '1 scimd: out of memory' ] || fail "$title" "status $status, $(tail -c 300 fault)"
       [ "$(state)" = "$before" ] || fail "$title" 'a start that failed changed the database'
       ended=$((ended + 1))
     else
