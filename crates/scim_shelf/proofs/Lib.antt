@@ -20,3 +20,4 @@ pub mod CopyLemmas
 pub mod CollectLemmas
 pub mod CountLemmas
 pub mod Facts
+pub mod SomePassLemmas

@@ -1,5 +1,5 @@
 -- The store that a shelf represents, and how a change alters it.
-use Rattle.std.specs.Prelude.{◌≡◌, ◌≢◌, ℕ, Bool, false, ◌&&◌, List, [], ◌∷◌, ◌++◌, find, filter, nat_eq, take, drop, All, AllPairs, Option, Some, ⊤, if◌then◌else◌}
+use Rattle.std.specs.Prelude.{◌≡◌, ◌≢◌, ℕ, Bool, false, ◌&&◌, List, [], ◌∷◌, ◌++◌, find, filter, nat_eq, take, drop, All, AllPairs, Option, None, Some, ⊤, if◌then◌else◌}
 use Rattle.std.specs.List.{list_any}
 use Rattle.std.specs.List.Sorted.{IsStrictlySortedBy, IsPermutation}
 use Rattle.std.specs.Ordering.{nat_cmp, is_lt, is_gt}
@@ -22,6 +22,7 @@ use Rattle.scim_value.specs.Resource.{IsResource, HasBase}
 use Rattle.scim_value.specs.Uniqueness.{Name, unique_names, AreApart}
 use Rattle.scim_audit.specs.declared.audit_rows.AuditRow.{AuditRow}
 use Rattle.scim_shelf.specs.declared.changes.Change.{Change}
+use Rattle.scim_shelf.specs.declared.leaf_texts.LeafText.{LeafText}
 use Rattle.scim_shelf.specs.declared.changes.Change.TheVariants.{Nothing, Keep, Remove}
 
 -- A store: its resources in order of id, and its audit rows, numbered from 1.
@@ -95,6 +96,23 @@ has_text leaf text c = has_text_in leaf text (values (unit_of leaf) (rows c))
 -- The resources of the kind that have the text at the leaf, in the order of the list.
 abbrev pub with_text : Kind → Leaf → List ℕ → List Content → List Content
 with_text kind leaf text cs = filter (has_text leaf text) (of_kind kind cs)
+
+-- Whether a resource has one of these texts at its leaf.
+abbrev pub has_some_text : List LeafText → Content → Bool
+has_some_text texts c = list_any (λ (t : LeafText). has_text t.leaf t.text.now c) texts
+
+-- The resources of the kind that have one of these texts at its leaf, in the order of the list.
+abbrev pub with_some_text : Kind → List LeafText → List Content → List Content
+with_some_text kind texts cs = filter (has_some_text texts) (of_kind kind cs)
+
+-- The resource that a look-up found, if any, as a list.
+abbrev pub those_found : Option Content → List Content
+those_found None = []
+those_found (Some c) = c ∷ []
+
+-- The resource of the kind with the id, if there is one, as a list.
+abbrev pub those_at : Kind → List ℕ → List Content → List Content
+those_at kind id cs = those_found (find (is_at kind id) cs)
 
 -- The `count` resources after the first `skipped`, or as many as there are.
 abbrev pub window : ℕ → ℕ → List Content → List Content

@@ -1,14 +1,18 @@
 //! The store of a service: where its resources and its audit rows are kept.
-ghost use Rattle.std.specs.Prelude.{◌≡◌, ℕ, List, IfOk, OnOk, find, filter};
+ghost use Rattle.std.specs.Prelude.{◌≡◌, ℕ, List, IfOk, OnOk, Err, find, filter};
+ghost use Rattle.scim_text.specs.declared.memory.Failed.TheVariants.{Because};
+ghost use Rattle.scim_shelf.specs.declared.faults.ShelfFault.TheVariants.{Device};
 ghost use Rattle.std.specs.List.{FoldsTo};
 ghost use Rattle.std.specs.Option.{option_copied};
 ghost use Rattle.scim_cell.specs.Kinds.{of_kind};
 ghost use Rattle.scim_value.specs.Uniqueness.{name_of};
-ghost use Rattle.scim_shelf.specs.Stores.{Store, AreKeyed, CanKeep, IsOld, is_at, has_name, is_group_with, with_text, window, after};
+ghost use Rattle.scim_shelf.specs.Stores.{Store, AreKeyed, CanKeep, IsOld, is_at, has_name, is_group_with, with_text, with_some_text, those_at, those_found, window, after};
 ghost use Rattle.scim_shelf.specs.Shelves.{Answers, OnlyReads, ShowsPrefix, TookWindow, Commits};
 
 use crate::changes::Change;
 use crate::faults::ShelfFault;
+use crate::leaf_texts::LeafText;
+use crate::some_text_filters::SomeTextFilter;
 use crate::text_filters::TextFilter;
 use crate::windows::Window;
 use scim_audit::AuditRow;
@@ -58,6 +62,27 @@ pub trait Shelf {
         ensures answer { IfOk result (Answers stands is_honest self.old self.new (λ store found.
             found ≡ find (is_at kind id) store.resources)) }
         ensures read { OnlyReads stands is_honest failures self.old self.new result };
+
+    /// Passes the resource of this kind with this id, if there is one, to the visitor (RFC 7644 section 3.4.1). A shelf
+    /// in memory doesn't copy it.
+    ///
+    /// Fails as `by_id` does, and with `NoMemory` if the visitor can't allocate. After the error `Device` the
+    /// visitor is unchanged; after `NoMemory` it is unusable.
+    fn lend_by_id<V: Visitor>(
+        &mut self,
+        alloc: Global,
+        kind: Kind,
+        id: Id,
+        visitor: &mut V,
+    ) -> Result<(), Failed<ShelfFault>>
+        ensures answer { OnOk result ((store : Store) → stands self.old store → is_honest self.new
+            → FoldsTo V.takes visitor.old (those_at kind id store.resources) visitor.new) }
+        ensures unchanged { result ≡ Err (Because Device) → visitor.new ≡ visitor.old }
+        ensures read { OnlyReads stands is_honest failures self.old self.new result }
+    {
+        let found = self.by_id(alloc, kind, id)?;
+        Ok(show_found(alloc, found, visitor)?)
+    }
 
     /// Returns the resource that has the unique name; `None` if no resource has it (RFC 7643 section 2.2,
     /// uniqueness).
@@ -133,6 +158,33 @@ pub trait Shelf {
         self.each(alloc, kind, &mut filter)
     }
 
+    /// Passes the resources of the kind that have one of the texts at its leaf to the visitor, in order of id, each
+    /// once. The texts are compared as they are: the caller has folded those whose leaf isn't caseExact (RFC 7643
+    /// section 2.2).
+    ///
+    /// Fails as `by_id` does, and with `NoMemory` if the visitor can't allocate. After the error `Device` the
+    /// visitor has taken a prefix of these resources; after `NoMemory` the visitor is unusable.
+    ///
+    /// Without an index of texts this reads all resources of the kind, once.
+    fn each_of<V: Visitor>(
+        &mut self,
+        alloc: Global,
+        kind: Kind,
+        texts: &[LeafText<'_>],
+        visitor: &mut V,
+    ) -> Result<(), Failed<ShelfFault>>
+        ensures answer { OnOk result ((store : Store) → stands self.old store → is_honest self.new
+            → FoldsTo V.takes visitor.old
+            (with_some_text kind texts.now store.resources) visitor.new) }
+        ensures prefix { ShowsPrefix stands is_honest self.old self.new result
+            V.takes visitor.old (λ store. with_some_text kind texts.now store.resources)
+            visitor.new }
+        ensures read { OnlyReads stands is_honest failures self.old self.new result }
+    {
+        let mut filter = SomeTextFilter::new(texts, visitor);
+        self.each(alloc, kind, &mut filter)
+    }
+
     /// Passes at most `count` resources of the kind to the visitor, in order of id, after the first `skipped`, and
     /// returns the number of all resources of the kind.
     ///
@@ -204,6 +256,21 @@ pub trait Shelf {
     /// Returns how often the device failed, 2^64 - 1 at most.
     fn failures(&self) -> u64
         ensures { result ≡ failures self.now };
+}
+
+/// Passes the resource that a look-up found to the visitor, if there is one. After an error the visitor is
+/// unusable.
+fn show_found<V: Visitor>(
+    alloc: Global,
+    found: Option<Resource>,
+    visitor: &mut V,
+) -> Result<(), NoMemory>
+    ensures { OnOk result (FoldsTo V.takes visitor.old (those_found found) visitor.new) }
+{
+    match found {
+        Some(resource) => visitor.take(alloc, &resource),
+        None => Ok(()),
+    }
 }
 
 /// Passes these resources to the visitor, in the order of the slice. After an error the visitor is unusable.

@@ -23,7 +23,12 @@ fn has_compared(alloc: Global, leaf: Leaf, text: &str, value: &Row) -> Result<bo
 }
 
 /// Whether a value of the resource has the text at the leaf, as comparisons use it.
-fn has_text(alloc: Global, leaf: Leaf, text: &str, resource: &Resource) -> Result<bool, NoMemory>
+pub(crate) fn has_text(
+    alloc: Global,
+    leaf: Leaf,
+    text: &str,
+    resource: &Resource,
+) -> Result<bool, NoMemory>
     ensures { IfOk result (λ has. has ≡ spec_has_text leaf text.now resource.now) }
 {
     for value in resource.part().values(unit_of(leaf)) {
