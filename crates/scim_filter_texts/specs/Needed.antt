@@ -9,7 +9,7 @@ use Rattle.scim_filter_grammar.specs.declared.tree.Literal.TheVariants.{Text}
 use Rattle.scim_filter_grammar.specs.declared.tree.Operator.TheVariants.{Eq}
 use Rattle.scim_filter.specs.Relation.{stands}
 use Rattle.scim_filter.specs.Truth.{some_atom, truth}
-use Rattle.scim_filter_texts.specs.declared.needed_texts.NeededText.{NeededText}
+use Rattle.scim_filter_texts.specs.declared.needs.NeededText.{NeededText}
 
 -- whether some atom of the rows at the leaf equals the text, as `eq` compares (RFC 7644 section 3.4.2.2)
 abbrev pub has_text : Leaf → List ℕ → List Row → Bool

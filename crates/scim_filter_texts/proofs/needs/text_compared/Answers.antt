@@ -8,7 +8,7 @@ use Rattle.scim_filter_grammar.specs.declared.tree.Operator.TheVariants.{Eq}
 use Rattle.scim_filter_grammar.specs.contracts.tree.Operator.{the_type as the_operator}
 use Rattle.scim_filter.specs.Truth.{compares}
 use Rattle.scim_filter_texts.proofs.NeededLemmas.{text_stands}
-use Rattle.scim_filter_texts.proofs.needed_texts.text_compared.Goals as goal
+use Rattle.scim_filter_texts.proofs.needs.text_compared.Goals as goal
 
 pub returns-in-Text : goal.returns-in-Text
 returns-in-Text c rs holds =

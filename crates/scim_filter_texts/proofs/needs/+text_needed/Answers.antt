@@ -4,7 +4,7 @@ use Rattle.scim_filter_grammar.specs.declared.tree.Node.{Node}
 use Rattle.scim_filter_grammar.specs.Tree.{view}
 use Rattle.scim_filter.specs.Truth.{some_position, truth}
 use Rattle.scim_filter_texts.proofs.NeededLemmas.{position_stands}
-use Rattle.scim_filter_texts.proofs.needed_texts.+text_needed.Goals as goal
+use Rattle.scim_filter_texts.proofs.needs.+text_needed.Goals as goal
 
 pub returns-in-Values : goal.returns-in-Values
 returns-in-Values t c =
