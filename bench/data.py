@@ -57,7 +57,7 @@ def policy(rules=1, form="other client"):
     for number in range(rules - 1):
         path = PATHS[number % len(PATHS)]
         made.append({"fitting": rule(True, "hr", ops, path), "other client": rule(True, "other", ops, path),
-                     "target": rule(False, "hr", ops, "title", target='displayName eq "nobody"')}[form])
+                     "target": rule(False, "hr", ops, "title", target=f'department eq "None{number}"')}[form])
     made.append(rule(True, "hr", ["read", "create", "modify", "delete"], "*"))
     return json.dumps({"version": 1, "rules": made})
 
@@ -132,10 +132,28 @@ def by_member_in_brackets(server, number):
     return search("Groups", f'members[value eq "{id_of(number * 7919 % server.users)}"]', "&excludedAttributes=members")
 
 
-# What connectors ask in each cycle, by the text of one leaf.
+def by_two_names(server, number):
+    first, second = (other * 7919 % server.users for other in (number, number + 1))
+    return search("Users", f'userName eq "USER{first}" or userName eq "user{second}"')
+
+
+def by_two_texts(server, number):
+    """A search for two users, by an externalId and by an address."""
+    first, second = (other * 7919 % server.users for other in (number, number + 1))
+    return search("Users", f'externalId eq "HR-{first}" or emails.value eq "user{second}@example.com"')
+
+
+def by_group(server, number):
+    """A search for the 100 users of a group, of whom one is shown."""
+    group = id_of(FIRST_GROUP + number % (server.users // 100))
+    return request("GET", f"/Users?count=1&filter={quote(f'groups.value eq {chr(34)}{group}{chr(34)}')}")
+
+
+# What connectors ask in each cycle, by texts.
 TEXTS = [("externalId", by_external_id), ("emails.value", by_address), ("a value path of emails", by_work_address),
          ("the name of a group", by_group_name), ("the externalId of a group", by_group_external_id),
-         ("members.value", by_member), ("a value path of members", by_member_in_brackets)]
+         ("members.value", by_member), ("a value path of members", by_member_in_brackets),
+         ("two names", by_two_names), ("an externalId or an address", by_two_texts), ("the group of users", by_group)]
 
 
 def retitle(server, number):
@@ -154,6 +172,11 @@ def create(_server, number):
 def page(server, number):
     """A page of 100 in the order of ids, with the groups of each user."""
     return request("GET", f"/Users?count=100&startIndex={number * 7919 % max(server.users - 100, 1) + 1}")
+
+
+def last_page(server, number):
+    """One of the last pages of 100 in the order of ids, with the groups of each user."""
+    return request("GET", f"/Users?count=100&startIndex={server.users - 100 - number % 100}")
 
 
 def sorted_page(_server, _number):

@@ -15,6 +15,7 @@ PATCH = Ask("PATCH of a title", data.retitle, 50)
 PUT = Ask("PUT", data.replace, 50)
 CREATE = Ask("create", data.create, 10, 201)
 PAGE = Ask("page of 100 with groups", data.page, 5)
+LAST_PAGE = Ask("one of the last pages of 100", data.last_page, 5)
 SORTED = Ask("sorted page of 100 with groups", data.sorted_page, 2)
 UNINDEXED = Ask("unindexed filter", data.unindexed, 2)
 BY_EMAIL = Ask("unindexed filter of emails", data.by_email, 2)
@@ -32,7 +33,7 @@ def users(bench):
     table = Table("users: processor ms a request, by the number of users", bench.sizes, [(1, 0), (2, 0)])
     with ExitStack() as stack:
         servers = [stack.enter_context(bench.server((size, 1))) for size in bench.sizes]
-        add_rows(bench, table, servers, [GET, BY_NAME, PATCH, PAGE, SORTED, UNINDEXED, CREATE])
+        add_rows(bench, table, servers, [GET, BY_NAME, PATCH, PAGE, LAST_PAGE, SORTED, UNINDEXED, CREATE])
     return table
 
 
@@ -49,14 +50,24 @@ def group_asks(number):
     """What the group of a number is asked."""
     path = f"/Groups/{data.id_of(data.FIRST_GROUP + number)}"
 
-    def add(_server, own):
-        return data.patch(path, "add", "members", [{"value": data.id_of(5_000_000 + own)}])
+    bare = path + "?excludedAttributes=members"
+    asked = f'id eq "{path[8:]}" and members eq "{data.id_of(1)}"'
 
-    return [Ask("GET", lambda _server, _own: data.request("GET", path), 4), Ask("PATCH that adds a member", add, 4)]
+    def add(target):
+        return lambda _server, own: data.patch(target, "add", "members", [{"value": data.id_of(5_000_000 + own)}])
+
+    def rename(_server, own):
+        return data.patch(bare, "replace", "displayName", f"Team {own}")
+
+    return [Ask("GET", lambda _server, _own: data.request("GET", path), 4),
+            Ask("GET without the members", lambda _server, _own: data.request("GET", bare), 20),
+            Ask("is it a member", lambda _server, _own: data.search("Groups", asked, "&attributes=id"), 20),
+            Ask("PATCH that adds a member", add(path), 4), Ask("the same, replied without the members", add(bare), 4),
+            Ask("PATCH of the name, likewise", rename, 4)]
 
 
 def members(bench):
-    """a GET of a group of 100, 1,000 and 9,900 members and a PATCH that adds one, with the cache and without"""
+    """a group of 100, 1,000 and 9,900 members: GET, is it a member, and PATCH, with the cache and without"""
     table = Table("members: processor ms a request, by the members of the group", bench.lists, [(1, 0), (2, 0)])
     for end, options in BOTH:
         with bench.server((bench.sizes[1], 0, tuple(bench.lists)), *options) as server:
@@ -66,12 +77,13 @@ def members(bench):
 
 
 def rules(bench):
-    """policies of 10 and of 1,000 rules: all for the client, all but one for another, with targets that never hold"""
-    table = Table("rules: processor ms a request, by the number of rules", [10, 1_000], [(1, 0)])
+    """policies of 10, 100 and 1,000 rules: all for the client, all but one for another, with targets that never hold"""
+    counts = [10, 100, 1_000]
+    table = Table("rules: processor ms a request, by the number of rules", counts, [(1, 0), (2, 0)])
     for form in ("fitting", "other client", "target"):
         with ExitStack() as stack:
             servers = [stack.enter_context(bench.server((bench.sizes[1], 1), policy=data.policy(count, form)))
-                       for count in (10, 1_000)]
+                       for count in counts]
             add_rows(bench, table, servers, [GET, PUT, PAGE, UNINDEXED], form + ": ")
     return table
 
