@@ -1,10 +1,11 @@
 -- What a term says of a text.
-use Rattle.std.proofs.Common.{◌≡◌, refl, sym, ◌∙◌, ap, ℕ, Bool, true, false, ◌&&◌, ◌||◌, List, [], ◌∷◌, filter, inl, inr}
+use Rattle.std.proofs.Common.{◌≡◌, refl, sym, ◌∙◌, ap, ℕ, Bool, true, false, ◌&&◌, ◌||◌, List, [], ◌∷◌, ◌++◌, filter, inl, inr}
 use Rattle.std.specs.Prelude.{Option, None, Some}
 use Rattle.std.specs.List.{list_any}
 use Rattle.std.specs.Option.{option_eq}
 use Rattle.std.proofs.Math.Bool.{or-false}
 use Rattle.std.proofs.lemmas.Bool.{cases_Bool, or_left, or_right}
+use Rattle.std.proofs.lemmas.List.Folds.{list_any-append}
 use denote.Enum.Bare.{sameb}
 use Rattle.scim_schema.specs.Characteristics.{is_case_exact, is_multi_valued}
 use Rattle.scim_schema.specs.contracts.Attribute.{the_type as the_attribute}
@@ -19,9 +20,11 @@ use Rattle.scim_filter_grammar.specs.declared.tree.Meant.{Meant}
 use Rattle.scim_filter_grammar.specs.declared.tree.Meant.TheVariants as meant
 use Rattle.scim_filter_grammar.specs.declared.tree.Operator.TheVariants.{Eq}
 use Rattle.scim_filter.specs.Relation.{stands}
-use Rattle.scim_filter.specs.Truth.{compares, some_cell, some_position}
+use Rattle.scim_filter.specs.Truth.{compares, some_cell, some_position, truth}
+use Rattle.scim_filter_grammar.specs.Tree.{Tree, Or}
 use Rattle.scim_filter_grammar.specs.Types.{compared_leaf}
-use Rattle.scim_filter_texts.specs.Needed.{has_text}
+use Rattle.scim_filter_texts.specs.Needed.{has_some_text, has_text, NeedsSome}
+use Rattle.scim_filter_texts.specs.declared.needs.NeededText.{NeededText}
 
 -- what passes among some passes among all
 either : (a b c d : Bool) → (a ≡ true → c ≡ true) → (b ≡ true → d ≡ true) → (a || b) ≡ true → (c || d) ≡ true
@@ -85,9 +88,22 @@ text_among l text qs rs among has =
     let stands_at : Field → Bool = λ f. is_same_leaf f.leaf l && stands (is_case_exact l) Eq f.atom (Text text) in
     cell_by_row stands_at l.attribute rs ∙ among (own_passes stands_at l.attribute) (sym (cell_by_row stands_at l.attribute qs) ∙ has)
 
--- so what the brackets need, the value path needs
-pub position_stands : (holds : List Row → Bool) (m : Meant) (l : Leaf) (text : List ℕ) (rs : List Row) → ((qs : List Row) → holds qs ≡ true → has_text l text qs ≡ true)
-    → some_position holds m rs ≡ true → has_text l text rs ≡ true
-position_stands holds m l text rs needs e =
+-- so have they some of texts
+pub some_text_among : (texts : List NeededText) (qs rs : List Row) → AreAmong qs rs → has_some_text texts qs ≡ true → has_some_text texts rs ≡ true
+some_text_among [] qs rs among e = e
+some_text_among (t ∷ texts) qs rs among e =
+    either (has_text t.leaf t.text.now qs) (has_some_text texts qs) (has_text t.leaf t.text.now rs) (has_some_text texts rs)
+    (text_among t.leaf t.text.now qs rs among) (some_text_among texts qs rs among) e
+
+-- what the brackets of a value path need, the value path needs
+pub position_stands : (holds has : List Row → Bool) (m : Meant) (rs : List Row) → ((qs : List Row) → AreAmong qs rs → has qs ≡ true → has rs ≡ true)
+    → ((qs : List Row) → holds qs ≡ true → has qs ≡ true) → some_position holds m rs ≡ true → has rs ≡ true
+position_stands holds has m rs more needs e =
     let inner = position_rows holds m rs e in
-    text_among l text inner.0 rs inner.2 (needs inner.0 inner.1)
+    more inner.0 inner.2 (needs inner.0 inner.1)
+
+-- a disjunction needs one of the texts of which each of its sides needs one
+pub either_needs : (a b : Tree) (xs ys : List NeededText) → NeedsSome a xs → NeedsSome b ys → NeedsSome (Or a b) (xs ++ ys)
+either_needs a b xs ys first second rs e =
+    let has : NeededText → Bool = λ t. has_text t.leaf t.text.now rs in
+    list_any-append has xs ys ∙ either (truth a rs) (truth b rs) (has_some_text xs rs) (has_some_text ys rs) (first rs) (second rs) e
