@@ -27,7 +27,7 @@ use Rattle.scim_filter_texts.specs.Needed.{has_some_text, has_text, NeedsSome}
 use Rattle.scim_filter_texts.specs.declared.needs.NeededText.{NeededText}
 
 -- what passes among some passes among all
-either : (a b c d : Bool) → (a ≡ true → c ≡ true) → (b ≡ true → d ≡ true) → (a || b) ≡ true → (c || d) ≡ true
+pub either : (a b c d : Bool) → (a ≡ true → c ≡ true) → (b ≡ true → d ≡ true) → (a || b) ≡ true → (c || d) ≡ true
 either true b c d f g e = rw (f refl) refl
 either false b c d f g e = or_right c d (g e)
 

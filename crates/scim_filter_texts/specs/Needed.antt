@@ -1,8 +1,9 @@
 -- Texts that the rows that match a filter have.
-use Rattle.std.specs.Prelude.{◌≡◌, ℕ, Bool, true, List}
+use Rattle.std.specs.Prelude.{◌≡◌, ℕ, Bool, true, List, All}
 use Rattle.std.specs.List.{list_any}
 use Rattle.scim_schema.specs.declared.Leaf.{Leaf}
 use Rattle.scim_schema.specs.Characteristics.{is_case_exact}
+use Rattle.scim_schema.specs.Units.{is_same_leaf}
 use Rattle.scim_cell.specs.Rows.{Row}
 use Rattle.scim_filter_grammar.specs.Tree.{Tree}
 use Rattle.scim_filter_grammar.specs.declared.tree.Literal.TheVariants.{Text}
@@ -18,6 +19,14 @@ has_text leaf text rs = some_atom (λ a. stands (is_case_exact leaf) Eq a (Text 
 -- whether the rows have one of these texts at its leaf
 abbrev pub has_some_text : List NeededText → List Row → Bool
 has_some_text texts rs = list_any (λ (t : NeededText). has_text t.leaf t.text.now rs) texts
+
+-- whether the leaf of the text is one of these
+abbrev pub is_at : List Leaf → NeededText → Bool
+is_at leaves t = list_any (is_same_leaf t.leaf) leaves
+
+-- the leaf of each text is one of these
+abbrev pub AreAt : List Leaf → List NeededText → Type 0
+AreAt leaves texts = All (λ (t : NeededText). is_at leaves t ≡ true) texts
 
 -- all rows that match the filter have the text at the leaf
 abbrev pub NeedsText : Tree → Leaf → List ℕ → Type 0

@@ -1,5 +1,6 @@
 //! The texts that a filter requires at leaves, by which a caller can look up the possible matches.
 ghost use Rattle.std.specs.Prelude.{◌≡◌, true, List, IfOk, IfSome};
+ghost use Rattle.scim_schema.specs.declared.Leaf.{Leaf};
 ghost use Rattle.scim_cell.specs.Rows.{Row};
 ghost use Rattle.scim_filter_grammar.specs.Tree.{Tree, And, Or, tree_of, view};
 ghost use Rattle.scim_filter.specs.Truth.{compares};
@@ -69,9 +70,10 @@ fn text_at_some<'f>(
     literal: &'f Literal,
     leaves: &[Leaf],
 ) -> Option<NeededText<'f>>
-    ensures { IfSome result (λ needed. (rs : List Row)
+    ensures needed { IfSome result (λ needed. (rs : List Row)
         → compares meant operator literal.now rs ≡ true
         → spec.has_text needed.leaf needed.text.now rs ≡ true) }
+    ensures leaf { IfSome result (λ needed. spec.is_at leaves.now needed ≡ true) }
 {
     for leaf in leaves {
         if let Some(text) = text_compared(meant, operator, literal, *leaf) {
@@ -89,9 +91,10 @@ fn texts_compared<'f>(
     literal: &'f Literal,
     leaves: &[Leaf],
 ) -> Result<Option<Vec<NeededText<'f>>>, NoMemory>
-    ensures { IfOk result (λ o. IfSome o (λ texts. (rs : List Row)
+    ensures needed { IfOk result (λ o. IfSome o (λ texts. (rs : List Row)
         → compares meant operator literal.now rs ≡ true
         → spec.has_some_text texts.items rs ≡ true)) }
+    ensures leaves { IfOk result (λ o. IfSome o (λ texts. spec.AreAt leaves.now texts.items)) }
 {
     let Some(needed) = text_at_some(meant, operator, literal, leaves) else {
         return Ok(None);
@@ -106,9 +109,12 @@ fn texts_of_both<'f>(
     first: Option<Vec<NeededText<'f>>>,
     second: Option<Vec<NeededText<'f>>>,
 ) -> Option<Vec<NeededText<'f>>>
-    ensures { (a b : Tree) → IfSome first.entry (λ texts. spec.NeedsSome a texts.items)
+    ensures needed { (a b : Tree) → IfSome first.entry (λ texts. spec.NeedsSome a texts.items)
         → IfSome second.entry (λ texts. spec.NeedsSome b texts.items)
         → IfSome result (λ texts. spec.NeedsSome (And a b) texts.items) }
+    ensures leaves { (ls : List Leaf) → IfSome first.entry (λ texts. spec.AreAt ls texts.items)
+        → IfSome second.entry (λ texts. spec.AreAt ls texts.items)
+        → IfSome result (λ texts. spec.AreAt ls texts.items) }
 {
     match (first, second) {
         (Some(first), Some(second)) => {
@@ -129,9 +135,12 @@ fn texts_of_either<'f>(
     first: Vec<NeededText<'f>>,
     second: Option<Vec<NeededText<'f>>>,
 ) -> Result<Option<Vec<NeededText<'f>>>, NoMemory>
-    ensures { IfOk result (λ o. (a b : Tree) → spec.NeedsSome a first.entry.items
+    ensures needed { IfOk result (λ o. (a b : Tree) → spec.NeedsSome a first.entry.items
         → IfSome second.entry (λ texts. spec.NeedsSome b texts.items)
         → IfSome o (λ texts. spec.NeedsSome (Or a b) texts.items)) }
+    ensures leaves { IfOk result (λ o. (ls : List Leaf) → spec.AreAt ls first.entry.items
+        → IfSome second.entry (λ texts. spec.AreAt ls texts.items)
+        → IfSome o (λ texts. spec.AreAt ls texts.items)) }
 {
     let Some(mut others) = second else {
         return Ok(None);
@@ -149,8 +158,9 @@ fn texts_needed<'f>(
     node: &'f Node,
     leaves: &[Leaf],
 ) -> Result<Option<Vec<NeededText<'f>>>, NoMemory>
-    ensures { IfOk result (λ o. IfSome o (λ texts.
+    ensures needed { IfOk result (λ o. IfSome o (λ texts.
         spec.NeedsSome (view node.now) texts.items)) }
+    ensures leaves { IfOk result (λ o. IfSome o (λ texts. spec.AreAt leaves.now texts.items)) }
 {
     match node {
         Node::Or(first, second) => match texts_needed(alloc, first, leaves)? {
@@ -177,8 +187,9 @@ pub fn needed_texts<'f>(
     filter: &'f Filter,
     leaves: &[Leaf],
 ) -> Result<Option<Vec<NeededText<'f>>>, NoMemory>
-    ensures { IfOk result (λ o. IfSome o (λ texts.
+    ensures needed { IfOk result (λ o. IfSome o (λ texts.
         spec.NeedsSome (tree_of filter.now) texts.items)) }
+    ensures leaves { IfOk result (λ o. IfSome o (λ texts. spec.AreAt leaves.now texts.items)) }
 {
     texts_needed(alloc, filter.tree(), leaves)
 }
