@@ -4,6 +4,6 @@ pub use Rattle.scim_view.proofs.IndexLemmas.{seen_more, and_those_append}
 pub use Rattle.scim_view.proofs.LawLemmas.{narrowed}
 pub use Rattle.scim_view.proofs.ListLemmas.{views_more}
 pub use Rattle.scim_view.proofs.NarrowedLemmas.{narrowed_groups, narrowed_view}
-pub use Rattle.scim_view.proofs.SeenRowsLemmas.{any_kept, any_weaker, cell_by_row, own_passes, seen_in_value, seen_stands, some_passes}
+pub use Rattle.scim_view.proofs.SeenRowsLemmas.{any_weaker, seen_in_value, seen_stands, some_passes}
 pub use Rattle.scim_view.proofs.ViewLemmas.{same_visible}
 pub use Rattle.scim_view.proofs.WritableLemmas.{passing, readable_leaf, none_denied, written_seen}

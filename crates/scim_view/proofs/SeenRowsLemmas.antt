@@ -30,6 +30,7 @@ use Rattle.scim_value.specs.Members.{lists}
 use Rattle.scim_value.specs.Resource.{first_at}
 use Rattle.scim_value.proofs.Facts.{get_cell, sound_part, one_value, unit_total, rows_content, put_sound, restricted_sound}
 use Rattle.scim_filter.specs.Truth.{some_cell, some_atom}
+use Rattle.scim_filter_texts.proofs.Facts.{any_kept, cell_by_row, either, own_passes}
 use Rattle.scim_view.specs.View.{Viewer, read_in, may_be_seen}
 use Rattle.scim_view.specs.Groups.{seen, membership, memberships, rows_with, with_groups, visible_with}
 use Rattle.scim_view.specs.Sorted.{sorted_by}
@@ -55,35 +56,12 @@ seen_rows : (v : Viewer) (gs : List Content) (c : Content) → IsPart c
 unfolding with_groups visible_with
 seen_rows v gs c part = rows_content c.kind c.id _ (seen_sound v gs c part)
 
--- what passes among some passes among all
-either : (a b c d : Bool) → (a ≡ true → c ≡ true) → (b ≡ true → d ≡ true) → (a || b) ≡ true → (c || d) ≡ true
-either true b c d f g e = rw (f refl) refl
-either false b c d f g e = or_right c d (g e)
-
-pub any_kept : {X : Type 0} (p q : X → Bool) (xs : List X) → list_any p (filter q xs) ≡ true → list_any p xs ≡ true
-any_kept p q [] e = e
-any_kept p q (x ∷ xs) e = elim (cases_Bool (q x)) [
-  | inl t ↦ either (p x) (list_any p (filter q xs)) (p x) (list_any p xs) (λ h. h) (any_kept p q xs) (rw t at e)
-  | inr u ↦ or_right (p x) (list_any p xs) (any_kept p q xs (rw u at e))
-]
-
 -- where an element passes, it passes each test that those that pass also pass
 pub any_weaker : {X : Type 0} (p q : X → Bool) (xs : List X) → All (λ x. p x ≡ true → q x ≡ true) xs → list_any p xs ≡ true → list_any q xs ≡ true
 any_weaker p q [] also e = e
 any_weaker {X = X} p q (x ∷ xs) also e =
     let Also : X → Type 0 = λ y. p y ≡ true → q y ≡ true in
     either (p x) (list_any p xs) (q x) (list_any q xs) (All-head Also x xs also) (any_weaker p q xs (All-tail Also x xs also)) e
-
--- whether a field of the attribute passes, row by row
-abbrev pub own_passes : (Field → Bool) → Attribute → Row → Bool
-own_passes p a r = sameb the_attribute r.unit.attribute a && list_any p r.fields
-
-pub cell_by_row : (p : Field → Bool) (a : Attribute) (rs : List Row) → some_cell p a rs ≡ list_any (own_passes p a) rs
-cell_by_row p a [] = refl
-cell_by_row p a (r ∷ rs) = elim (cases_Bool (sameb the_attribute r.unit.attribute a)) [
-  | inl t ↦ rw t (ap (λ b. list_any p r.fields || b) (cell_by_row p a rs))
-  | inr u ↦ rw u (cell_by_row p a rs)
-]
 
 -- a cell that is left of rows stands in them
 row_kept : (keeps : Test) (p : Field → Bool) (a : Attribute) (rs : List Row) → list_any (own_passes p a) (map (restricted_row keeps) rs) ≡ true → list_any (own_passes p a) rs ≡ true
