@@ -1,4 +1,5 @@
 pub mod AccessLemmas
+pub mod AskedLemmas
 pub mod ControlLemmas
 pub mod NumberLemmas
 pub mod OpenedLemmas

@@ -47,6 +47,32 @@ all_selected client k rs i selected end are =
     ∙ sym (ap (λ (qs : List Rule). map reading_rule selected ++ selected_from client k (i + 1) qs) gone)
     ∙ are
 
+pushed : (selected : List ReadingRule) (r : ReadingRule) (more : List (ℕ × Rule)) → map reading_rule (selected ++ r ∷ []) ++ more ≡ map reading_rule selected ++ reading_rule r ∷ more
+pushed [] r more = refl
+pushed (s ∷ selected) r more = ap (λ (ms : List (ℕ × Rule)). reading_rule s ∷ ms) (pushed selected r more)
+
+module _ (client : List ℕ) (k : Kind) (rs : List Rule) (i : ℕ) (selected : List ReadingRule) (less : i < length rs) where
+  -- the rules from the i-th on are that one and those behind it
+  from_item : (r : Rule) → r ≡ get_or rs i r → selected_from client k (i + 1) (drop i rs) ≡ selected_from client k (i + 1) (r ∷ drop (i + 1) rs)
+  from_item r there = at_drop_more (selected_from client k (i + 1)) rs i r less ∙ ap (λ (q : Rule). selected_from client k (i + 1) (q ∷ drop (i + 1) rs)) (sym there)
+
+  pub selected_next : (r : ReadingRule) (new : List ReadingRule) → r.rule.now ≡ get_or rs i r.rule.now → r.number ≡ i + 1 → is_about client Read k r.rule.now ≡ true
+      → new ≡ selected ++ r ∷ [] → AreSelected client k rs i selected → AreSelected client k rs (i + 1) new
+  selected_next r new there number ours are before =
+      let more = selected_from client k (i + 1 + 1) (drop (i + 1) rs) in
+      let first : selected_from client k (i + 1) (r.rule.now ∷ drop (i + 1) rs) ≡ (i + 1, r.rule.now) ∷ more = rw ours refl in
+      ap (λ (ns : List ReadingRule). map reading_rule ns ++ more) are
+      ∙ pushed selected r more
+      ∙ ap (λ (n : ℕ). map reading_rule selected ++ (n, r.rule.now) ∷ more) number
+      ∙ sym (ap (λ (ms : List (ℕ × Rule)). map reading_rule selected ++ ms) (from_item r.rule.now there ∙ first))
+      ∙ before
+
+  pub selected_skip : (r : Rule) → r ≡ get_or rs i r → is_about client Read k r ≡ false → AreSelected client k rs i selected → AreSelected client k rs (i + 1) selected
+  selected_skip r there other before =
+      let more = selected_from client k (i + 1 + 1) (drop (i + 1) rs) in
+      let first : selected_from client k (i + 1) (r ∷ drop (i + 1) rs) ≡ more = rw other refl in
+      sym (ap (λ (ms : List (ℕ × Rule)). map reading_rule selected ++ ms) (from_item r there ∙ first)) ∙ before
+
 -- of the selected rules, those that are met are those that fit
 met_fits : (client : List ℕ) (c : Content) (l : Leaf) (n : ℕ × Rule) (ours : Bool) → is_about client Read c.kind n.1 ≡ ours → ours && is_met_for_reading c l n ≡ fits client Read c l n.1
 met_fits client c l n ours is =

@@ -1,4 +1,5 @@
 -- Definitions for the code that computes decisions.
+pub mod Asked
 pub mod Inside
 pub mod Steps
 pub mod PatternWalk

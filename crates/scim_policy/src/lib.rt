@@ -13,6 +13,7 @@
 #![tactic(auto)]
 
 mod access_rights;
+mod asked_texts;
 mod decisions;
 mod laws;
 mod misfits;

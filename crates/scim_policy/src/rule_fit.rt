@@ -1,15 +1,17 @@
 //! Decides whether a rule fits a request.
-ghost use Rattle.std.specs.Prelude.{◌≡◌, ◌||◌, IfOk};
+ghost use Rattle.std.specs.Prelude.{◌≡◌, ◌||◌, IfOk, IfSome};
 ghost use Rattle.std.specs.List.{list_any};
 ghost use denote.Enum.Bare.{sameb};
 ghost use Rattle.scim_schema.specs.contracts.Kind.{the_type as the_kind};
 ghost use Rattle.scim_schema.specs.contracts.Op.{the_type as the_op};
 ghost use Rattle.scim_policy.specs.Fits as spec;
+ghost use Rattle.scim_policy.specs.code.Asked as needs;
 ghost use Rattle.scim_policy.specs.code.Walk as walk;
 
 use crate::rules::{ClientName, FilteredPath, PolicyPath, Rule, Target};
 use scim_filter::holds;
-use scim_schema::{Attribute, Kind, Leaf, Op, SubAttribute, is_multi_valued};
+use scim_filter_texts::{NeededText, needed_texts};
+use scim_schema::{Attribute, Kind, Leaf, Op, SubAttribute, is_multi_valued, leaves};
 use scim_text::NoMemory;
 use scim_value::Resource;
 use std::alloc::Global;
@@ -78,6 +80,41 @@ impl Rule {
         let targets = self.targets();
         Ok(targets.is_empty() || holds_on(alloc, targets, resource)?)
     }
+
+    /// Returns texts of which each resource of the kind that meets the rule's target has at least one. `None` if
+    /// the rule has no target, or if no such texts are known.
+    pub(crate) fn needed_texts(
+        &self,
+        alloc: Global,
+        kind: Kind,
+    ) -> Result<Option<Vec<NeededText<'_>>>, NoMemory>
+        ensures { IfOk result (λ o. IfSome o (λ texts.
+            needs.AreNeeded kind self.now texts.items)) }
+    {
+        let targets = self.targets();
+        if targets.is_empty() {
+            return Ok(None);
+        }
+        needed_by(alloc, targets, kind)
+    }
+}
+
+/// Returns texts of which each resource of the kind that the target for the kind matches has at least one. `None`
+/// if no target is for the kind, or if no such texts are known.
+fn needed_by<'p>(
+    alloc: Global,
+    targets: &'p [Target],
+    kind: Kind,
+) -> Result<Option<Vec<NeededText<'p>>>, NoMemory>
+    ensures { IfOk result (λ o. IfSome o (λ texts.
+        needs.AreNeededBy kind targets.now texts.items)) }
+{
+    for target in targets {
+        if kind == target.kind() {
+            return needed_texts(alloc, target.filter(), leaves(kind));
+        }
+    }
+    Ok(None)
 }
 
 /// Whether the target for the resource's kind matches the resource. False if no target is for that kind.
