@@ -3,4 +3,4 @@
 
 mod needs;
 
-pub use needs::{NeededText, needed_text, needed_texts};
+pub use needs::{NeededText, compared_text, needed_text, needed_texts};

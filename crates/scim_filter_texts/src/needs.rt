@@ -1,13 +1,15 @@
 //! The texts that a filter requires at leaves, by which a caller can look up the possible matches.
 ghost use Rattle.std.specs.Prelude.{◌≡◌, true, List, IfOk, IfSome};
+ghost use Rattle.scim_schema.specs.Characteristics.{is_case_exact as case_exact};
 ghost use Rattle.scim_schema.specs.declared.Leaf.{Leaf};
 ghost use Rattle.scim_cell.specs.Rows.{Row};
 ghost use Rattle.scim_filter_grammar.specs.Tree.{Tree, And, Or, tree_of, view};
+ghost use Rattle.scim_filter.specs.Relation.{cased};
 ghost use Rattle.scim_filter.specs.Truth.{compares};
 ghost use Rattle.scim_filter_texts.specs.Needed as spec;
 
 use scim_filter_grammar::{Filter, Literal, Meant, Node, Operator, StringLiteral};
-use scim_schema::Leaf;
+use scim_schema::{Leaf, is_case_exact};
 use scim_text::{NoMemory, push};
 use std::alloc::Global;
 
@@ -16,6 +18,18 @@ use std::alloc::Global;
 pub struct NeededText<'f> {
     pub leaf: Leaf,
     pub text: &'f StringLiteral,
+}
+
+/// Returns the text as comparisons at the leaf use it: case-folded unless the leaf is caseExact (RFC 7643
+/// section 2.2).
+pub fn compared_text(leaf: Leaf, text: &StringLiteral) -> &str
+    ensures { result.now ≡ cased (case_exact leaf) text.now }
+{
+    if is_case_exact(leaf) {
+        text.as_str()
+    } else {
+        text.folded()
+    }
 }
 
 /// Returns the text that a comparison requires at the leaf. `None` if the comparison isn't `leaf eq "text"`.

@@ -1,9 +1,8 @@
 -- What the texts of a resource tell of the targets that it meets.
-use Rattle.std.proofs.Common.{◌≡◌, refl, sym, ◌∙◌, ap, subst, ℕ, Bool, true, false, ◌&&◌, ◌||◌, List, [], ◌∷◌, ◌++◌, ◌<◌, length, get_or, inl, inr}
+use Rattle.std.proofs.Common.{◌≡◌, refl, sym, ◌∙◌, ap, subst, ℕ, Bool, true, false, ◌&&◌, List, [], ◌∷◌, ◌++◌, ◌<◌, length, get_or, inl, inr}
 use Rattle.std.specs.Prelude.{Option, None, Some, IfSome, All, not}
 use Rattle.std.specs.Global.{Vec}
 use Rattle.std.specs.List.{list_any}
-use Rattle.std.specs.Cmp.Lexicographic.{pointwise}
 use Rattle.std.proofs.lemmas.Bool.{cases_Bool, or_left, or_right}
 use Rattle.std.proofs.lemmas.List.Elements.{All-append, All-cons, All-get_or, All-nil, All-weaker}
 use Rattle.std.proofs.lemmas.List.Folds.{list_any-append}
@@ -24,7 +23,7 @@ use Rattle.scim_cell.specs.Rows.{Row, rows}
 use Rattle.scim_filter_grammar.specs.declared.tree.Literal.TheVariants as literal
 use Rattle.scim_filter_grammar.specs.declared.tree.Operator.TheVariants.{Eq}
 use Rattle.scim_filter.specs.Relation.{cased, stands}
-use Rattle.scim_filter_texts.specs.Needed.{has_text, has_some_text}
+use Rattle.scim_filter_texts.specs.Needed.{has_text}
 use Rattle.scim_filter_texts.specs.declared.needs.NeededText.{NeededText}
 use Rattle.scim_filter_texts.proofs.Facts.{cell_by_row, own_passes}
 use Rattle.scim_policy.specs.declared.asked_texts.AskedText.{AskedText}

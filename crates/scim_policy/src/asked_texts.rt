@@ -1,13 +1,10 @@
 //! The texts of a resource at the leaves that targets ask, to tell which targets it doesn't meet.
 ghost use Rattle.std.specs.Prelude.{◌≡◌, ◌++◌, IfOk, IfSome, OnOk};
-ghost use Rattle.scim_schema.specs.Characteristics.{is_case_exact as case_exact};
 ghost use Rattle.scim_cell.specs.Rows as of_rows;
-ghost use Rattle.scim_filter.specs.Relation.{cased};
 ghost use Rattle.scim_policy.specs.code.Asked as spec;
 
 use scim_cell::{Atom, Field, Row, Text};
-use scim_filter_grammar::StringLiteral;
-use scim_filter_texts::NeededText;
+use scim_filter_texts::{NeededText, compared_text};
 use scim_schema::{Attribute, Kind, Leaf, is_case_exact};
 use scim_text::{NoMemory, fold, push};
 use scim_value::Resource;
@@ -91,18 +88,6 @@ fn compared_atom(alloc: Global, exact: bool, atom: &Atom) -> Result<Option<Text>
         Atom::Text(text) if exact => Ok(Some(text.try_copy(alloc)?)),
         Atom::Text(text) => Ok(Some(Text::new(fold(alloc, text.as_str())?))),
         _ => Ok(None),
-    }
-}
-
-/// Returns the text as comparisons at the leaf use it: case-folded unless the leaf is caseExact (RFC 7643
-/// section 2.2).
-fn compared_text(leaf: Leaf, text: &StringLiteral) -> &str
-    ensures { result.now ≡ cased (case_exact leaf) text.now }
-{
-    if is_case_exact(leaf) {
-        text.as_str()
-    } else {
-        text.folded()
     }
 }
 

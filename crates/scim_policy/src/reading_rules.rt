@@ -1,5 +1,5 @@
 //! Selects the rules for a client's reading of a kind once, to compute the patterns of many resources.
-ghost use Rattle.std.specs.Prelude.{◌≡◌, true, map, IfOk};
+ghost use Rattle.std.specs.Prelude.{◌≡◌, true, IfOk};
 ghost use Rattle.scim_schema.specs.declared.Leaf.{Leaf};
 ghost use Rattle.scim_cell.specs.Content.{Content};
 ghost use Rattle.scim_policy.specs.Patterns as spec;
@@ -123,7 +123,8 @@ impl<'p> ReadingRules<'p> {
 }
 
 impl ReadingRule<'_> {
-    /// Whether the resource meets the rule's target, if its texts tell no more than it does.
+    /// Whether the resource meets the rule's target. The target isn't evaluated if the resource has none of the texts
+    /// that it needs.
     #[tactic(auto, using(crate::proofs::AskedLemmas::only_if))]
     fn is_met(
         &self,
