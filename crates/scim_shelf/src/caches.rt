@@ -154,6 +154,19 @@ impl<S: Shelf> Shelf for CachedShelf<S> {
         }
     }
 
+    fn lend_by_id<V: Visitor>(
+        &mut self,
+        alloc: Global,
+        kind: Kind,
+        id: Id,
+        visitor: &mut V,
+    ) -> Result<(), Failed<ShelfFault>> {
+        match &self.resources {
+            Some(resources) => Ok(resources.show_at(alloc, kind, id, visitor)?),
+            None => self.lower.lend_by_id(alloc, kind, id, visitor),
+        }
+    }
+
     fn name_owner(
         &mut self,
         alloc: Global,

@@ -12,7 +12,7 @@ ghost use Rattle.scim_cell.specs.Content.{Content};
 ghost use Rattle.scim_cell.specs.Kinds.{of_kind};
 ghost use Rattle.scim_value.specs.declared.uniqueness.UniqueName.{UniqueName};
 ghost use Rattle.scim_value.specs.Uniqueness.{name_of, AreApart};
-ghost use Rattle.scim_shelf.specs.Stores.{Store, HasPlace, CanKeep, IsOld, is_at, has_name, is_group_with, with_text, has_text_in, changed, keep, without};
+ghost use Rattle.scim_shelf.specs.Stores.{Store, HasPlace, CanKeep, IsOld, is_at, has_name, is_group_with, with_text, those_at, has_text_in, changed, keep, without};
 ghost use Rattle.scim_shelf.specs.Collections.{IsCollection};
 ghost use Rattle.scim_shelf.specs.Shelves.{TookWindow};
 ghost use Rattle.scim_shelf.specs.Indexed.{has_id, has_in, only_of, names_of, before};
@@ -430,6 +430,24 @@ impl Collection {
             }
         }
         Ok(total)
+    }
+
+    /// Passes the resource of the kind with the id to the visitor, if there is one (RFC 7644 section 3.4.1). After an
+    /// error the visitor is unusable.
+    pub fn show_at<V: Visitor>(
+        &self,
+        alloc: Global,
+        kind: Kind,
+        id: Id,
+        visitor: &mut V,
+    ) -> Result<(), NoMemory>
+        ensures { OnOk result ((cs : List Content) → IsCollection cs self.now
+            → FoldsTo V.takes visitor.old (those_at kind id cs) visitor.new) }
+    {
+        match if_of(kind, self.with_id(id)) {
+            Some(resource) => visitor.take(alloc, resource),
+            None => Ok(()),
+        }
     }
 
     /// Passes the groups that list the value among their members to the visitor, in order of id (RFC 7643

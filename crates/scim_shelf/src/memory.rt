@@ -75,6 +75,16 @@ impl Shelf for MemoryShelf {
         Ok(self.collection.resource_at(alloc, kind, id)?)
     }
 
+    fn lend_by_id<V: Visitor>(
+        &mut self,
+        alloc: Global,
+        kind: Kind,
+        id: Id,
+        visitor: &mut V,
+    ) -> Result<(), Failed<ShelfFault>> {
+        Ok(self.collection.show_at(alloc, kind, id, visitor)?)
+    }
+
     fn name_owner(
         &mut self,
         alloc: Global,

@@ -137,6 +137,19 @@ impl<S: Shelf, W: Watcher> Shelf for WatchedShelf<S, W> {
         counted(&mut self.failures, self.lower.by_id(alloc, kind, id))
     }
 
+    fn lend_by_id<V: Visitor>(
+        &mut self,
+        alloc: Global,
+        kind: Kind,
+        id: Id,
+        visitor: &mut V,
+    ) -> Result<(), Failed<ShelfFault>> {
+        counted(
+            &mut self.failures,
+            self.lower.lend_by_id(alloc, kind, id, visitor),
+        )
+    }
+
     fn name_owner(
         &mut self,
         alloc: Global,
