@@ -18,6 +18,7 @@ use Rattle.scim_shelf.specs.declared.collections.Collection.{Collection}
 use Rattle.scim_shelf.specs.declared.owners.Owners.{Owners}
 use Rattle.scim_shelf.specs.Collections.{IsCollection}
 use Rattle.scim_shelf.specs.Stores.{is_same_name, has_name}
+use Rattle.scim_shelf.specs.KindIds.{HasSameIds}
 use Rattle.scim_shelf.specs.TextIndex.{HasSameNotes}
 use Rattle.scim_shelf.specs.Owners.{is_alike, is_among, owner, AreUnowned, HasSameOwners}
 use Rattle.scim_shelf.specs.Indexed.{names_of, has_in}
@@ -123,12 +124,12 @@ owners_back old mid new names unowned others left q =
     left q ∙ by_bool (is_among q names) (λ t. rw t (sym (unowned q t))) (λ f. rw f (others q f))
 
 -- a collection with the resources, the owners and the notes of another
-pub same_collection : (cs : List Content) (old new : Collection) → new.by_id.entries ≡ old.by_id.entries → new.groups ≡ old.groups
+pub same_collection : (cs : List Content) (old new : Collection) → new.by_id.entries ≡ old.by_id.entries → HasSameIds old.kinds new.kinds
     → HasSameOwners old.owners new.owners → HasSameNotes old.texts new.texts → IsCollection cs old → IsCollection cs new
-same_collection cs old new entries groups owned noted h = record {
+same_collection cs old new entries kinds owned noted h = record {
   resources = entries ∙ h.resources;
   keyed_apart = h.keyed_apart;
-  groups = groups ∙ h.groups;
+  kinds = λ k. kinds k ∙ h.kinds k;
   owners = λ q. owned q ∙ h.owners q;
   noted = λ q i. noted q i ∙ h.noted q i;
 }

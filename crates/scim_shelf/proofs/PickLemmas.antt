@@ -1,5 +1,5 @@
 -- The resources with some ids, found by the ids.
-use Rattle.std.proofs.Common.{◌≡◌, refl, sym, ◌∙◌, ap, subst, ℕ, Bool, false, List, [], ◌∷◌, ◌++◌, arith}
+use Rattle.std.proofs.Common.{◌≡◌, refl, sym, ◌∙◌, ap, subst, ℕ, Bool, false, List, [], ◌∷◌, ◌++◌, map, arith}
 use Rattle.std.specs.Prelude.{All, find, filter, Option, None, Some}
 use Rattle.std.specs.Ordering.{nat_cmp}
 use Rattle.std.specs.declared.cmp.Ordering.TheVariants.{Less, Equal, Greater}
@@ -9,9 +9,11 @@ use Rattle.std.specs.List.Sorted.{IsStrictlySortedBy}
 use Rattle.std.specs.BTreeMap.{is_at}
 use Rattle.std.specs.BTreeSet.{BTreeSet, contains}
 use Rattle.std.proofs.lemmas.Cmp.{nat_list_cmp_total}
-use Rattle.std.proofs.lemmas.List.Elements.{All-nil, All-cons, All-head, All-tail, All-weaker, All-from_recursion}
+use Rattle.std.proofs.lemmas.List.{map_push}
+use Rattle.std.proofs.lemmas.List.Elements.{filter-append, All-nil, All-cons, All-head, All-tail, All-weaker, All-from_recursion}
 use Rattle.std.proofs.lemmas.Map.Keys.{sorted_head, sorted_tail}
 use Rattle.std.proofs.lemmas.Map.Lookups.{exact_bytes}
+use denote.Ref.{Bor}
 use Rattle.scim_cell.specs.Content.{Content}
 use Rattle.scim_schema.specs.declared.Kind.{Kind}
 use Rattle.scim_cell.specs.Kinds.{is_of, of_kind}
@@ -130,7 +132,7 @@ picked_all [] keyed ids ascend = none_picked ids
 picked_all (c ∷ cs) keyed ids ascend = picked_more c cs (keyed_above c cs keyed) (picked_all cs (keyed_tail c cs keyed)) ids ascend
 
 -- each resource is the one that is found by its id
-found_own : (cs : List Content) → AreKeyed cs → All (λ c. find (has_id c.id) cs ≡ Some c) cs
+pub found_own : (cs : List Content) → AreKeyed cs → All (λ c. find (has_id c.id) cs ≡ Some c) cs
 found_own [] keyed = All-nil _
 found_own (c ∷ cs) keyed =
     All-cons (λ d. find (has_id d.id) (c ∷ cs) ≡ Some d) c cs (rw (id_itself c.id) refl)
@@ -182,3 +184,17 @@ pub folds_both : {V : Type 0} (Takes : V → Content → V → Type 0) (first mi
     → FoldsTo Takes first cs middle → FoldsTo Takes middle ds last → FoldsTo Takes first (cs ++ ds) last
 folds_both Takes first middle last [] ds before after = subst (λ v. FoldsTo Takes v ds last) (sym before) after
 folds_both Takes first middle last (c ∷ cs) ds before after = (before.0, before.1, folds_both Takes before.0 middle last cs ds before.2 after)
+
+-- what has taken the resources with some ids has taken those with one more
+pub folds_picked : {V : Type 0} (Takes : V → Content → V → Type 0) (kind : Kind) (first last next : V) (cs : List Content) (ids : List (Bor (List ℕ))) (id : Bor (List ℕ))
+    → FoldsTo Takes first (of_kind kind (picked cs (map (λ i. i.now) ids))) last → FoldsTo Takes last (of_kind kind (before (find (has_id id.now) cs) [])) next
+    → FoldsTo Takes first (of_kind kind (picked cs (map (λ i. i.now) (ids ++ id ∷ [])))) next
+folds_picked Takes kind first last next cs ids id taken more =
+    let some = map (λ (i : Bor (List ℕ)). i.now) ids in
+    let one = before (find (has_id id.now) cs) [] in
+    let all : of_kind kind (picked cs (map (λ (i : Bor (List ℕ)). i.now) (ids ++ id ∷ []))) ≡ of_kind kind (picked cs some) ++ of_kind kind one =
+    ap (λ (xs : List (List ℕ)). of_kind kind (picked cs xs)) (map_push (λ (i : Bor (List ℕ)). i.now) ids id)
+    ∙ ap (of_kind kind) (picked_push cs some id.now)
+    ∙ filter-append (is_of kind) (picked cs some) one in
+    subst (λ (ds : List Content). FoldsTo Takes first ds next) (sym all)
+    (folds_both Takes first last next (of_kind kind (picked cs some)) (of_kind kind one) taken more)

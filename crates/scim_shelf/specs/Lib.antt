@@ -10,4 +10,5 @@ pub mod IndexedTexts
 pub mod Members
 pub mod TextIndex
 pub mod Owners
+pub mod KindIds
 pub mod Indexed

@@ -7,7 +7,6 @@ ghost use Rattle.std.specs.BTreeSet.{contains};
 ghost use Rattle.std.specs.List.{FoldsTo};
 ghost use Rattle.std.specs.List.Sorted.{IsPermutation};
 ghost use Rattle.std.specs.Option.{option_copied};
-ghost use Rattle.scim_schema.specs.declared.Kind.TheVariants.{Group};
 ghost use Rattle.scim_cell.specs.Content.{Content};
 ghost use Rattle.scim_cell.specs.Kinds.{of_kind};
 ghost use Rattle.scim_value.specs.declared.uniqueness.UniqueName.{UniqueName};
@@ -17,6 +16,7 @@ ghost use Rattle.scim_shelf.specs.Collections.{IsCollection};
 ghost use Rattle.scim_shelf.specs.Shelves.{TookWindow};
 ghost use Rattle.scim_shelf.specs.Indexed.{has_id, has_in, only_of, names_of, before};
 ghost use Rattle.scim_shelf.specs.Owners.{is_among};
+ghost use Rattle.scim_shelf.specs.KindIds.{HasSameIds, IsInserted};
 ghost use Rattle.scim_shelf.specs.IndexedTexts.{is_under, is_under_at, is_under_at_in, is_under_in};
 ghost use Rattle.scim_shelf.specs.TextIndex.{is_same, is_noted, IsUnnoted, HasSameNotes};
 
@@ -24,11 +24,11 @@ use crate::changes::Change;
 use crate::indexed_texts::{
     indexed_values, is_indexed, texts_beyond, texts_indexed, values_beyond,
 };
+use crate::kind_ids::KindIds;
 use crate::owners::Owners;
 use crate::shelf::Visitor;
 use crate::text_filters::TextFilter;
 use crate::text_index::{Holders, TextIndex};
-use crate::windows::Window;
 use scim_cell::{Id, Row};
 use scim_schema::{Attribute, Kind, Leaf, SubAttribute, indexed_leaves};
 use scim_text::NoMemory;
@@ -46,8 +46,7 @@ pub(crate) struct Collection {
     by_id: BTreeMap<Id, Resource>,
     owners: Owners,
     texts: TextIndex,
-    /// The number of groups.
-    groups: usize,
+    kinds: KindIds,
 }
 
 impl Drop for Collection {
@@ -56,7 +55,7 @@ impl Drop for Collection {
             by_id: _by_id,
             owners: _owners,
             texts: _texts,
-            groups: _groups,
+            kinds: _kinds,
         } = self;
     }
 }
@@ -81,16 +80,6 @@ fn if_of(kind: Kind, found: Option<&Resource>) -> Option<&Resource>
     }
 }
 
-/// Returns 1 if the resource is a group, and 0 otherwise.
-fn groups_among(found: Option<&Resource>) -> usize
-    ensures { result ≡ length (of_kind Group (before (option_copied found.entry) [])) }
-{
-    match found {
-        Some(resource) if resource.kind() == Kind::Group => 1,
-        _ => 0,
-    }
-}
-
 impl Collection {
     /// Returns an empty collection.
     pub(crate) fn new(alloc: Global) -> Collection
@@ -100,7 +89,7 @@ impl Collection {
             by_id: BTreeMap::new(alloc),
             owners: Owners::new(alloc),
             texts: TextIndex::new(alloc),
-            groups: 0,
+            kinds: KindIds::new(alloc),
         }
     }
 
@@ -274,7 +263,6 @@ impl Collection {
         let names_come = self.owners.unowned(names);
         let gone = self.texts_gone(alloc, &resource)?;
         let come = self.texts_come(alloc, &resource)?;
-        let groups = self.groups_with(&resource)?;
         self.owners.note(alloc, names_come.as_slice(), id)?;
         if let Err(refused) = self.insert(alloc, resource, come.as_slice()) {
             self.owners.forget(names_come.as_slice());
@@ -282,12 +270,11 @@ impl Collection {
         }
         self.owners.forget(names_gone.as_slice());
         self.texts.forget(gone.as_slice(), id);
-        self.groups = groups;
         Ok(())
     }
 
-    /// Stores the resource by its id, and adds the id to the index of texts under the texts `come`. A stored
-    /// resource with the same id is replaced.
+    /// Stores the resource by its id, and adds the id to those of the kind, and to the index of texts under the
+    /// texts `come`. A stored resource with the same id is replaced.
     ///
     /// On an error nothing is changed, provided that the id was indexed under none of these texts before.
     fn insert(
@@ -297,7 +284,41 @@ impl Collection {
         come: &[UniqueName],
     ) -> Result<(), NoMemory>
         ensures owners { self.new.owners ≡ self.old.owners }
-        ensures groups { self.new.groups ≡ self.old.groups }
+        ensures resources { OnOk result (self.new.by_id.entries
+            ≡ insert_entry (slice_cmp nat_cmp) self.old.by_id.entries resource.id resource) }
+        ensures kinds { OnOk result (IsInserted resource.kind resource.id
+            self.old.kinds self.new.kinds) }
+        ensures noted { OnOk result ((q : UniqueName) (i : List ℕ)
+            → is_noted self.new.texts q i
+            ≡ cond (is_among q come.now && is_same resource.id i) true
+            (is_noted self.old.texts q i)) }
+        ensures err_resources { OnErr result (self.new.by_id.entries ≡ self.old.by_id.entries) }
+        ensures err_kinds { OnErr result (HasSameIds self.old.kinds self.new.kinds) }
+        ensures err_noted { OnErr result (IsUnnoted self.old.texts come.now resource.id
+            → HasSameNotes self.old.texts self.new.texts) }
+    {
+        let kind = resource.kind();
+        let id = resource.id();
+        let added = self.kinds.insert(kind, id)?;
+        if let Err(refused) = self.insert_noted(alloc, resource, come) {
+            self.kinds.take_back(kind, id, added);
+            return Err(refused);
+        }
+        Ok(())
+    }
+
+    /// Stores the resource by its id, and adds the id to the index of texts under the texts `come`. A stored
+    /// resource with the same id is replaced.
+    ///
+    /// On an error nothing is changed, provided that the id was indexed under none of these texts before.
+    fn insert_noted(
+        &mut self,
+        alloc: Global,
+        resource: Resource,
+        come: &[UniqueName],
+    ) -> Result<(), NoMemory>
+        ensures owners { self.new.owners ≡ self.old.owners }
+        ensures kinds { self.new.kinds ≡ self.old.kinds }
         ensures resources { OnOk result (self.new.by_id.entries
             ≡ insert_entry (slice_cmp nat_cmp) self.old.by_id.entries resource.id resource) }
         ensures noted { OnOk result ((q : UniqueName) (i : List ℕ)
@@ -340,42 +361,11 @@ impl Collection {
     {
         let names = self.names_at(alloc, id)?;
         let texts = self.texts_at(alloc, id)?;
-        let groups = self.groups_without(id);
         self.owners.forget(names.as_slice());
         self.texts.forget(texts.as_slice(), id);
         self.by_id.remove(&id);
-        self.groups = groups;
+        self.kinds.remove(id);
         Ok(())
-    }
-
-    /// Returns the number of groups after the resource is stored. A stored resource with the same id is replaced.
-    /// Fails if the number overflows `usize`.
-    fn groups_with(&self, new: &Resource) -> Result<usize, NoMemory>
-        ensures { IfOk result (λ groups. (cs : List Content) → IsCollection cs self.now
-            → groups ≡ length (of_kind Group (keep new.now cs))) }
-    {
-        let others = self.groups_without(new.id());
-        let groups = others.checked_add(groups_among(Some(new))).ok_or(NoMemory)?;
-        Ok(groups)
-    }
-
-    /// Returns the number of groups after the user or group with the id, if there is one, is removed.
-    fn groups_without(&self, id: Id) -> usize
-        ensures { (cs : List Content) → IsCollection cs self.now
-            → result ≡ length (of_kind Group (without id cs)) }
-    {
-        self.groups.saturating_sub(groups_among(self.with_id(id)))
-    }
-
-    /// Returns the number of resources of the kind.
-    fn number_of(&self, kind: Kind) -> usize
-        ensures { (cs : List Content) → IsCollection cs self.now
-            → result ≡ length (of_kind kind cs) }
-    {
-        match kind {
-            Kind::User => self.len().saturating_sub(self.groups),
-            Kind::Group => self.groups,
-        }
     }
 
     /// Returns the number of resources.
@@ -405,9 +395,10 @@ impl Collection {
     }
 
     /// Passes at most `count` resources of the kind to the visitor, in order of id, after the first `skipped`, and
-    /// returns the number of all resources of the kind. Goes no further than the end of that window.
+    /// returns the number of all resources of the kind. Reads no other resource, and goes no further than the ids
+    /// of that window.
     ///
-    /// Also fails if the visitor was shown more than `usize::MAX` resources. After an error the visitor is unusable.
+    /// After an error the visitor is unusable.
     pub fn show_from<V: Visitor>(
         &self,
         alloc: Global,
@@ -419,15 +410,13 @@ impl Collection {
         ensures { IfOk result (λ total. (cs : List Content) → IsCollection cs self.now
             → TookWindow V.takes visitor.old skipped count (of_kind kind cs) visitor.new total) }
     {
-        let total = self.number_of(kind);
-        let mut window = Window::new(skipped, count, visitor);
-        for resource in self.by_id.values() {
-            if window.is_past() {
-                return Ok(total);
-            }
-            if resource.kind() == kind {
-                window.take(alloc, resource)?;
-            }
+        let ids = self.kinds.of(kind);
+        let total = ids.len();
+        if count == 0 || skipped >= total {
+            return Ok(total);
+        }
+        for id in ids.iter().skip(skipped).take(count) {
+            self.show_one(alloc, kind, *id, visitor)?;
         }
         Ok(total)
     }

@@ -9,6 +9,7 @@ mod collections;
 mod copies;
 mod faults;
 mod indexed_texts;
+mod kind_ids;
 mod leaf_texts;
 mod members;
 mod memory;

@@ -1,23 +1,15 @@
-use Rattle.std.proofs.Common.{◌≡◌, sym, ◌∙◌, subst, ◌&&◌, true, false, cond, List, ℕ}
-use Rattle.scim_value.specs.declared.uniqueness.UniqueName.{UniqueName}
-use Rattle.scim_shelf.specs.Owners.{is_among}
-use Rattle.scim_shelf.specs.TextIndex.{is_same, is_noted, IsUnnoted}
-use Rattle.scim_shelf.proofs.NotedLemmas.{taken_back}
-use Rattle.scim_shelf.proofs.OwnerLemmas.{on_err}
+use Rattle.std.proofs.Common.{subst}
+use Rattle.scim_shelf.specs.declared.kind_ids.KindIds.{KindIds}
+use Rattle.scim_shelf.specs.KindIds.{IsRemovedIf}
+use Rattle.scim_shelf.proofs.KindLemmas.{ids_back}
 use Rattle.scim_shelf.proofs.collections.Collection.insert.Goals as goal
 
-pub returns-in_err-note-clause-err_noted : goal.returns-in_err-note-clause-err_noted
-returns-in_err-note-clause-err_noted c = on_err c.from_residual.result (λ unnoted.
-    c.in_err-note.ensures.err (subst (IsUnnoted c.args.self.now.texts c.args.come.now) (sym c.id-id.ensures) unnoted))
-
-pub returns-clause-err_noted : goal.returns-clause-err_noted
-returns-clause-err_noted c = λ unnoted.
-    let old = c.args.self.now.texts in
-    let mid = c.note.new.self in
-    let come = c.args.come.now in
-    let id = c.args.resource.id in
-    let same : c.id-id.result ≡ id = c.id-id.ensures in
-    let others = λ (q : UniqueName) (i : List ℕ) (other : (is_among q come && is_same id i) ≡ false).
-    c.in_ok-note.ensures.ok q i ∙ (λ j. cond (is_among q come && is_same (same j) i) true (is_noted old q i)) ∙ (λ j. cond (other j) true (is_noted old q i)) in
-    let left = λ (q : UniqueName) (i : List ℕ). c.forget.ensures q i ∙ (λ j. cond (is_among q come && is_same (same j) i) false (is_noted mid q i)) in
-    taken_back old mid c.forget.new.self come id unnoted others left
+pub returns-in-Err-clause-err_kinds : goal.returns-in-Err-clause-err_kinds
+returns-in-Err-clause-err_kinds c =
+    let kind = c.kind-kind.result in
+    let id = c.id-id.result in
+    let added = c.in_ok-added.added in
+    let last = c.take_back.new.self in
+    let inserted = c.in_ok-added.ensures in
+    ids_back kind id added c.args.self.now.kinds c.insert.new.self last inserted.added inserted.inserted inserted.unchanged
+    (subst (λ (ks : KindIds). IsRemovedIf added kind id ks last) c.insert_noted.ensures.kinds c.take_back.ensures)

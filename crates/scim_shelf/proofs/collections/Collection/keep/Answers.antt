@@ -1,10 +1,12 @@
 use Rattle.std.proofs.Common.{◌≡◌, refl, ◌∙◌, ap, sym, cond, true, false, ◌&&◌, not, Bool}
 use Rattle.std.specs.Prelude.{None, Some, find, is_none}
 use Rattle.std.specs.BTreeMap.{insert_entry}
+use Rattle.std.specs.BTreeSet.{insert_key}
 use Rattle.std.specs.Option.{option_map}
 use Rattle.std.specs.Ordering.{nat_cmp}
 use Rattle.std.specs.Cmp.Lexicographic.{slice_cmp}
 use Rattle.scim_shelf.specs.declared.collections.Collection.{Collection}
+use Rattle.scim_cell.specs.Kinds.{is_of}
 use Rattle.scim_value.specs.declared.uniqueness.UniqueName.{UniqueName}
 use Rattle.scim_value.specs.Uniqueness.{name_of}
 use Rattle.scim_shelf.specs.Stores.{has_name}
@@ -13,6 +15,7 @@ use Rattle.scim_shelf.specs.Indexed.{has_id, has_in}
 use Rattle.scim_shelf.specs.TextIndex.{is_same, is_noted}
 use Rattle.scim_shelf.proofs.StoreLemmas.{keep_keyed}
 use Rattle.scim_shelf.proofs.CollectionLemmas.{insert_keyed}
+use Rattle.scim_shelf.proofs.KindLemmas.{ids_keep}
 use Rattle.scim_shelf.proofs.NameLemmas.{owner_keep}
 use Rattle.scim_shelf.proofs.NotedLemmas.{noted_keep, come_unnoted}
 use Rattle.scim_shelf.proofs.OwnerLemmas.{among_names, chosen_unowned, on_err, owner_changed, owners_back, own_name, same_collection}
@@ -39,7 +42,10 @@ returns-clause-ok c = λ cs h place.
           ∙ (λ i. insert_entry (slice_cmp nat_cmp) (h.resources i) kept.id kept)
           ∙ insert_keyed kept cs h.keyed_apart;
       keyed_apart = keep_keyed kept cs h.keyed_apart place.names;
-      groups = c.in_ok-groups.ensures cs h;
+      kinds = λ k.
+          c.in_default.ensures.kinds k
+          ∙ (λ i. cond (is_of k kept) (insert_key (slice_cmp nat_cmp) (h.kinds k i) kept.id) (h.kinds k i))
+          ∙ sym (ids_keep k kept cs h.keyed_apart place.kinds);
       owners = λ q.
           c.forget-2.ensures q
           ∙ (λ i. cond (gone q i) None (owner (c.insert.ensures.owners i) q))
@@ -59,10 +65,10 @@ returns-clause-ok c = λ cs h place.
 pub returns-in_err-note-clause-err : goal.returns-in_err-note-clause-err
 returns-in_err-note-clause-err c = on_err c.from_residual-in_err-note.result (λ cs h.
     let old = c.args.self.now in
-    let new : Collection = record { by_id = old.by_id; owners = c.note.new.self; texts = old.texts; groups = old.groups } in
+    let new : Collection = record { by_id = old.by_id; owners = c.note.new.self; texts = old.texts; kinds = old.kinds } in
     let come = c.unowned-names_come.result.items in
     let unowned : AreUnowned old.owners come = chosen_unowned old.owners c.in_ok-names.names.items come c.unowned-names_come.ensures in
-    same_collection cs old new refl refl
+    same_collection cs old new refl (λ k. refl)
     (c.in_err-note.ensures.err (λ q among. unowned q (sym (ap (is_among q) c.as_slice-2.ensures.value) ∙ among))) (λ q i. refl) h)
 
 -- the names that came go again
@@ -71,7 +77,7 @@ returns-in-Err-clause-err c = λ cs h.
     let old = c.args.self.now in
     let kept = c.args.resource in
     let stored = c.insert.new.self in
-    let new : Collection = record { by_id = stored.by_id; owners = c.forget.new.self; texts = stored.texts; groups = stored.groups } in
+    let new : Collection = record { by_id = stored.by_id; owners = c.forget.new.self; texts = stored.texts; kinds = stored.kinds } in
     let come = c.unowned-names_come.result.items in
     let unowned : AreUnowned old.owners come = chosen_unowned old.owners c.in_ok-names.names.items come c.unowned-names_come.ensures in
     let others = λ (q : UniqueName) (none : is_among q come ≡ false).
@@ -81,5 +87,5 @@ returns-in-Err-clause-err c = λ cs h.
     c.forget.ensures q ∙ (λ i. cond (is_among q (c.as_slice-in-Err.ensures.value i)) None (owner (c.insert.ensures.owners i) q)) in
     let unnoted = come_unnoted old.texts c.as_slice-3.result.now kept cs h.noted
     (λ q. ap (is_among q) c.as_slice-3.ensures.value ∙ c.in_ok-come.ensures cs h q) in
-    same_collection cs old new c.in-Err.ensures.err_resources c.insert.ensures.groups
+    same_collection cs old new c.in-Err.ensures.err_resources c.in-Err.ensures.err_kinds
     (owners_back old.owners c.note.new.self c.forget.new.self come unowned others left) (c.in-Err.ensures.err_noted unnoted) h

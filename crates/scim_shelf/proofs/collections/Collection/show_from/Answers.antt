@@ -1,55 +1,37 @@
-use Rattle.std.proofs.Common.{rules, ◌≡◌, sym, ◌∙◌, ap, subst, ◌+◌, ◌≤◌, true, List, ℕ, ◌++◌, map}
-use Rattle.std.specs.Map.{values_of}
+use Rattle.std.proofs.Common.{◌≡◌, ◌∙◌, ap, subst, ℕ, List, length, take, drop}
 use Rattle.std.specs.List.{FoldsTo}
-use Rattle.std.proofs.lemmas.List.Elements.{filter-append}
-use Rattle.std.proofs.lemmas.Map.Iter.{iter_end, rest_so_far}
+use Rattle.std.proofs.lemmas.Iterator.{YieldsList-from_take}
+use Rattle.std.proofs.lemmas.Iterator.Adapters.{YieldsList-from_skip}
+use Rattle.std.proofs.lemmas.Iterator.Consumers.{YieldsList-at, YieldsList-end, YieldsList-from_rest}
+use Rattle.std.proofs.lemmas.List.{length-map}
 use Rattle.scim_cell.specs.Content.{Content}
-use Rattle.scim_cell.specs.Kinds.{is_of, of_kind}
-use Rattle.scim_shelf.specs.Stores.{window}
-use Rattle.scim_shelf.specs.Windows.{PassesWindow}
-use Rattle.scim_shelf.proofs.ShowLemmas.{values_keyed, folds_more}
-use Rattle.scim_shelf.proofs.WindowLemmas.{took_all, took_enough}
+use Rattle.scim_cell.specs.Kinds.{of_kind}
+use Rattle.scim_shelf.specs.Indexed.{picked}
+use Rattle.scim_shelf.proofs.KindLemmas.{ids_of, picked_window}
+use Rattle.scim_shelf.proofs.PickLemmas.{folds_picked}
 use Rattle.scim_shelf.proofs.collections.Collection.show_from.Goals as goal
 
-pub loop-resource-preserved-in-Continue-1 : goal.loop-resource-preserved-in-Continue-1
-loop-resource-preserved-in-Continue-1 g c =
-    let r = c.in-Some.resource in
-    let passes : is_of c.args.kind r.now ≡ true = search rules in
-    folds_more (PassesWindow g.V.Visitor.takes) (is_of c.args.kind) c.new-window.result c.loop-resource.window c.take.new.self c.loop-resource.yielded r passes c.loop-resource.invariant c.in_ok-take.ensures
-
-pub returns-then-is_past : goal.returns-then-is_past
-returns-then-is_past g c = λ cs h.
-    let begun = c.new-window.ensures in
-    let kind = c.args.kind in
-    let shown : List Content = map (λ r. r.now) c.loop-resource.yielded in
-    let rest : List Content = c.loop-resource.resource-iterator in
-    let split : values_of c.args.self.now.by_id.entries ≡ shown ++ rest = search (rules, rest_so_far) in
-    let all : shown ++ rest ≡ cs = sym split ∙ ap (λ (es : List (List ℕ × Content)). values_of es) h.resources ∙ values_keyed cs in
-    let parts : of_kind kind shown ++ of_kind kind rest ≡ of_kind kind cs = sym (filter-append (is_of kind) shown rest) ∙ ap (of_kind kind) all in
-    let past : c.loop-resource.window.skipped + c.loop-resource.window.count ≤ c.loop-resource.window.shown = search rules in
-    let took = took_enough g.V.Visitor.takes c.new-window.result (of_kind kind shown) (of_kind kind rest) c.loop-resource.window begun.shown c.loop-resource.invariant past in
-    let name = took.0 ∙ begun.same_reference in
-    let new : c.loop-resource.window.visitor.now ≡ c.visitor-then-is_past-1.given.0 = search (rules, name) in
-    let taken = rw (begun.visitor, begun.skipped, begun.count) at took.1 in
-    record {
-      number = c.number_of-total.ensures cs h;
-      took =
-          subst (λ v. FoldsTo g.V.Visitor.takes c.args.visitor.now (window c.args.skipped c.args.count (of_kind kind cs)) v) new
-          (subst (λ (xs : List Content). FoldsTo g.V.Visitor.takes c.args.visitor.now (window c.args.skipped c.args.count xs) c.loop-resource.window.visitor.now) parts taken);
-    }
+pub loop-id-preserved : goal.loop-id-preserved
+loop-id-preserved g c = λ cs h.
+    folds_picked g.V.Visitor.takes c.args.kind c.args.visitor.now c.loop-id.visitor c.show_one.new.visitor cs c.loop-id.yielded c.in-Some.id
+    (c.loop-id.invariant cs h) (c.in_ok-show_one.ensures cs h)
 
 pub returns : goal.returns
 returns g c = λ cs h.
-    let begun = c.new-window.ensures in
-    let all : map (λ r. r.now) c.loop-resource.yielded ≡ values_of c.args.self.now.by_id.entries = search (rules, iter_end) in
-    let same : map (λ r. r.now) c.loop-resource.yielded ≡ cs = all ∙ ap (λ (es : List (List ℕ × Content)). values_of es) h.resources ∙ values_keyed cs in
-    let took = took_all g.V.Visitor.takes c.new-window.result (of_kind c.args.kind (map (λ r. r.now) c.loop-resource.yielded)) c.loop-resource.window begun.shown c.loop-resource.invariant in
-    let name = took.0 ∙ begun.same_reference in
-    let new : c.loop-resource.window.visitor.now ≡ c.visitor-1.given.0 = search (rules, name) in
-    let shown = rw (begun.visitor, begun.skipped, begun.count) at took.1 in
+    let kind = c.args.kind in
+    let skipped = c.args.skipped in
+    let count = c.args.count in
+    let keys = c.of-ids.result.now.keys in
+    let chain = YieldsList-from_take count
+    (YieldsList-at c.take-id-items.ensures.source
+    (YieldsList-from_skip skipped (YieldsList-at c.skip.ensures.source (YieldsList-from_rest keys c.iter.ensures.rest)) c.skip.ensures.count))
+    c.take-id-items.ensures.count in
+    let seen = YieldsList-end (YieldsList-at c.into_iter-id-iterator.ensures.into_iter_gives chain)
+    c.loop-id.yielded _ c.loop-id.yielded_by _ _ c.in-None.is c.next.ensures.steps in
+    let same : keys ≡ ids_of kind cs = c.of-ids.ensures ∙ h.kinds kind in
+    let shown = ap (λ (ids : List (List ℕ)). of_kind kind (picked cs ids)) (seen.0 ∙ ap (λ (ks : List (List ℕ)). take count (drop skipped ks)) same)
+    ∙ picked_window kind skipped count cs h.keyed_apart in
     record {
-      number = c.number_of-total.ensures cs h;
-      took =
-          subst (λ v. FoldsTo g.V.Visitor.takes c.args.visitor.now (window c.args.skipped c.args.count (of_kind c.args.kind cs)) v) new
-          (subst (λ (xs : List Content). FoldsTo g.V.Visitor.takes c.args.visitor.now (window c.args.skipped c.args.count (of_kind c.args.kind xs)) c.loop-resource.window.visitor.now) same shown);
+      number = c.len-total.ensures.len ∙ ap length same ∙ length-map (of_kind kind cs) (λ (d : Content). d.id);
+      took = subst (λ (ds : List Content). FoldsTo g.V.Visitor.takes c.args.visitor.now ds c.loop-id.visitor) shown (c.loop-id.invariant cs h);
     }
