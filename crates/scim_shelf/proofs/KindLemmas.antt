@@ -1,9 +1,9 @@
 -- The ids of the resources of a kind, as resources come and go.
-use Rattle.std.proofs.Common.{◌≡◌, refl, sym, ◌∙◌, ap, subst, ℕ, Bool, true, false, ◌&&◌, not, cond, List, [], ◌∷◌, map, take, drop}
-use Rattle.std.specs.Prelude.{All, Option, Some, filter, find}
+use Rattle.std.proofs.Common.{◌≡◌, refl, sym, ◌∙◌, ap, subst, ℕ, Bool, true, false, not, cond, List, [], ◌∷◌, map, take, drop}
+use Rattle.std.specs.Prelude.{All, Some, find}
 use Rattle.std.specs.Bool.{OnFalse}
 use Rattle.std.specs.List.{list_any}
-use Rattle.std.specs.Ordering.{nat_cmp, is_eq}
+use Rattle.std.specs.Ordering.{nat_cmp}
 use Rattle.std.specs.declared.cmp.Ordering.TheVariants.{Less, Equal, Greater}
 use Rattle.std.specs.Cmp.Lexicographic.{slice_cmp}
 use Rattle.std.specs.BTreeMap.{is_at}
@@ -22,7 +22,7 @@ use Rattle.scim_cell.specs.Order.{id_cmp}
 use Rattle.scim_shelf.specs.declared.kind_ids.KindIds.{KindIds}
 use Rattle.scim_shelf.specs.KindIds.{ids, has_id as has_kept, HasSameIds, IsInserted, IsRemovedIf}
 use Rattle.scim_shelf.specs.Stores.{AreKeyed, AreOf, keep, without, window}
-use Rattle.scim_shelf.specs.Indexed.{has_id, before, picked}
+use Rattle.scim_shelf.specs.Indexed.{has_id, picked}
 use Rattle.scim_shelf.proofs.PlaceLemmas.{AreAbove, by_order, above_lower, keep_less, keep_equal, keep_greater, without_less, without_equal, without_greater}
 use Rattle.scim_shelf.proofs.StoreLemmas.{keyed_above, keyed_tail}
 use Rattle.scim_shelf.proofs.NameLemmas.{by_bool}

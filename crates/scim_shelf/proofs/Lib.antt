@@ -20,4 +20,3 @@ pub mod CopyLemmas
 pub mod CollectLemmas
 pub mod CountLemmas
 pub mod Facts
-pub mod SomePassLemmas

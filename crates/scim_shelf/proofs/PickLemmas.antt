@@ -141,7 +141,7 @@ found_own (c ∷ cs) keyed =
     (All-from_recursion (λ d. slice_cmp nat_cmp c.id d.id ≡ Less) cs (keyed_above c cs keyed)) (found_own cs (keyed_tail c cs keyed)))
 
 -- where just the ids of the resources that pass a test pass another, the resources of the kind whose ids pass it are those
-noted_resources : (kind : Kind) (passes : Content → Bool) (test : List ℕ → Bool) (cs : List Content) → AreKeyed cs
+pub noted_resources : (kind : Kind) (passes : Content → Bool) (test : List ℕ → Bool) (cs : List Content) → AreKeyed cs
     → ((id : List ℕ) (c : Content) → find (has_id id) cs ≡ Some c → test id ≡ passes c)
     → of_kind kind (filter (λ c. test c.id) cs) ≡ filter passes (of_kind kind cs)
 noted_resources kind passes test cs keyed noted =

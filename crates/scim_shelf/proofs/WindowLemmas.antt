@@ -1,5 +1,5 @@
 -- What a visitor has taken behind a window.
-use Rattle.std.proofs.Common.{◌≡◌, refl, sym, ◌∙◌, ap, subst, add-zero, append-nil, ℕ, ◌+◌, ◌-◌, ◌<◌, ◌≤◌, inl, inr, zero, suc, List, [], ◌∷◌, ◌++◌, length, take, arith}
+use Rattle.std.proofs.Common.{◌≡◌, refl, sym, ◌∙◌, ap, subst, add-zero, ℕ, ◌+◌, ◌-◌, ◌<◌, ◌≤◌, inl, inr, zero, suc, List, [], ◌∷◌, ◌++◌, length, take, arith}
 use Rattle.std.specs.List.{FoldsTo}
 use Rattle.std.proofs.Math.Seq.{drop-nil}
 use Rattle.std.proofs.lemmas.Bool.{cases_lt}
@@ -124,19 +124,6 @@ module _ {V : Type 0} (Takes : V → Content → V → Type 0) where
   took_all old cs new fresh folds =
       let all = passed old cs new folds in
       (all.same_reference, subst (λ (xs : List Content). FoldsTo Takes old.visitor.now xs new.visitor.now) (left_whole old.skipped old.count old.shown cs fresh) all.took)
-
-  -- a window that is past needs no more
-  pub took_enough : (old : Window V) (xs ys : List Content) (new : Window V) → old.shown ≡ 0 → FoldsTo (PassesWindow Takes) old xs new
-      → new.skipped + new.count ≤ new.shown
-      → (new.visitor.ghost_name ≡ old.visitor.ghost_name) × FoldsTo Takes old.visitor.now (window old.skipped old.count (xs ++ ys)) new.visitor.now
-  took_enough old xs ys new fresh folds past =
-      let all = passed old xs new folds in
-      let beyond : old.skipped + old.count ≤ old.shown + length xs = omega (arith, all.skipped, all.count, all.shown) in
-      let same : left old.skipped old.count old.shown xs ≡ window old.skipped old.count (xs ++ ys)
-      = sym (left_append old.skipped old.count old.shown xs ys
-      ∙ ap (λ (zs : List Content). left old.skipped old.count old.shown xs ++ zs) (left_past old.skipped old.count (old.shown + length xs) ys beyond)
-      ∙ append-nil (left old.skipped old.count old.shown xs)) ∙ left_whole old.skipped old.count old.shown (xs ++ ys) fresh in
-      (all.same_reference, subst (λ (zs : List Content). FoldsTo Takes old.visitor.now zs new.visitor.now) same all.took)
 
   -- a window that was shown a prefix passed on a prefix
   pub took_prefix : (old : Window V) (cs : List Content) (new : Window V) → old.shown ≡ 0 → TookPrefix (PassesWindow Takes) old cs new

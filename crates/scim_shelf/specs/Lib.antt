@@ -1,7 +1,6 @@
 pub mod Stores
 pub mod Shelves
 pub mod TextFilters
-pub mod SomeTextFilters
 pub mod Windows
 pub mod Collections
 pub mod code

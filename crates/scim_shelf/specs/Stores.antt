@@ -93,10 +93,6 @@ has_text_in leaf text rs = list_any (λ (r : Row). is_compared leaf text (atom_i
 abbrev pub has_text : Leaf → List ℕ → Content → Bool
 has_text leaf text c = has_text_in leaf text (values (unit_of leaf) (rows c))
 
--- The resources of the kind that have the text at the leaf, in the order of the list.
-abbrev pub with_text : Kind → Leaf → List ℕ → List Content → List Content
-with_text kind leaf text cs = filter (has_text leaf text) (of_kind kind cs)
-
 -- Whether a resource has one of these texts at its leaf.
 abbrev pub has_some_text : List LeafText → Content → Bool
 has_some_text texts c = list_any (λ (t : LeafText). has_text t.leaf t.text.now c) texts

@@ -11,10 +11,11 @@ use crate::changes::Change;
 use crate::collections::Collection;
 use crate::copies::{CacheContents, collection_of};
 use crate::faults::ShelfFault;
+use crate::leaf_texts::LeafText;
 use crate::shelf::{Shelf, Visitor};
 use scim_audit::AuditRow;
 use scim_cell::Id;
-use scim_schema::{Kind, Leaf};
+use scim_schema::Kind;
 use scim_text::Failed;
 use scim_value::{Resource, UniqueName};
 use std::alloc::Global;
@@ -202,17 +203,16 @@ impl<S: Shelf> Shelf for CachedShelf<S> {
         }
     }
 
-    fn each_with<V: Visitor>(
+    fn each_of<V: Visitor>(
         &mut self,
         alloc: Global,
         kind: Kind,
-        leaf: Leaf,
-        text: &str,
+        texts: &[LeafText<'_>],
         visitor: &mut V,
     ) -> Result<(), Failed<ShelfFault>> {
         match &self.resources {
-            Some(resources) => Ok(resources.show_with(alloc, kind, leaf, text, visitor)?),
-            None => self.lower.each_with(alloc, kind, leaf, text, visitor),
+            Some(resources) => Ok(resources.show_of(alloc, kind, texts, visitor)?),
+            None => self.lower.each_of(alloc, kind, texts, visitor),
         }
     }
 

@@ -11,20 +11,19 @@ ghost use Rattle.scim_cell.specs.Content.{Content};
 ghost use Rattle.scim_cell.specs.Kinds.{of_kind};
 ghost use Rattle.scim_value.specs.declared.uniqueness.UniqueName.{UniqueName};
 ghost use Rattle.scim_value.specs.Uniqueness.{name_of, AreApart};
-ghost use Rattle.scim_shelf.specs.Stores.{Store, HasPlace, CanKeep, IsOld, is_at, has_name, is_group_with, with_text, those_at, has_text_in, changed, keep, without};
+ghost use Rattle.scim_shelf.specs.Stores.{Store, HasPlace, CanKeep, IsOld, is_at, has_name, is_group_with, with_some_text, those_at, has_text_in, changed, keep, without};
 ghost use Rattle.scim_shelf.specs.Collections.{IsCollection};
 ghost use Rattle.scim_shelf.specs.Shelves.{TookWindow};
 ghost use Rattle.scim_shelf.specs.Indexed.{has_id, has_in, only_of, names_of, before};
 ghost use Rattle.scim_shelf.specs.Owners.{is_among};
 ghost use Rattle.scim_shelf.specs.KindIds.{HasSameIds, IsInserted};
-ghost use Rattle.scim_shelf.specs.IndexedTexts.{is_under, is_under_at, is_under_at_in, is_under_in};
+ghost use Rattle.scim_shelf.specs.IndexedTexts.{is_under, is_under_at, is_under_at_in, is_under_in, is_under_some, is_under_some_in};
 ghost use Rattle.scim_shelf.specs.TextIndex.{is_same, is_noted, IsUnnoted, HasSameNotes};
 
 use crate::changes::Change;
-use crate::indexed_texts::{
-    indexed_values, is_indexed, texts_beyond, texts_indexed, values_beyond,
-};
+use crate::indexed_texts::{indexed_values, texts_beyond, texts_indexed, values_beyond};
 use crate::kind_ids::KindIds;
+use crate::leaf_texts::{LeafText, has_unindexed};
 use crate::owners::Owners;
 use crate::shelf::Visitor;
 use crate::text_filters::TextFilter;
@@ -456,26 +455,78 @@ impl Collection {
         self.show_indexed(alloc, Kind::Group, leaf, value, visitor)
     }
 
-    /// Passes the resources of the kind that have the text at the leaf to the visitor, in order of id. Reads no
-    /// other resource if the leaf is indexed for the kind, and all resources otherwise.
+    /// Passes the resources of the kind that have one of the texts at its leaf to the visitor, in order of id, each
+    /// once. Reads no other resource if each leaf is indexed for the kind, and all resources, once, otherwise.
     ///
     /// After an error the visitor is unusable.
-    pub fn show_with<V: Visitor>(
+    pub fn show_of<V: Visitor>(
         &self,
         alloc: Global,
         kind: Kind,
-        leaf: Leaf,
-        text: &str,
+        texts: &[LeafText<'_>],
         visitor: &mut V,
     ) -> Result<(), NoMemory>
         ensures { OnOk result ((cs : List Content) → IsCollection cs self.now
-            → FoldsTo V.takes visitor.old (with_text kind leaf text.now cs) visitor.new) }
+            → FoldsTo V.takes visitor.old (with_some_text kind texts.now cs) visitor.new) }
     {
-        if is_indexed(kind, leaf) {
-            return self.show_indexed(alloc, kind, leaf, text, visitor);
+        if has_unindexed(kind, texts) {
+            let mut filter = TextFilter::new(texts, visitor);
+            return self.show(alloc, kind, &mut filter);
         }
-        let mut filter = TextFilter::new(leaf, text, visitor);
-        self.show(alloc, kind, &mut filter)
+        self.show_under(alloc, kind, texts, visitor)
+    }
+
+    /// Passes the resources of the kind that are indexed under one of the texts to the visitor, in order of id, each
+    /// once. After an error the visitor is unusable.
+    fn show_under<V: Visitor>(
+        &self,
+        alloc: Global,
+        kind: Kind,
+        texts: &[LeafText<'_>],
+        visitor: &mut V,
+    ) -> Result<(), NoMemory>
+        ensures { OnOk result ((cs : List Content) → IsCollection cs self.now
+            → FoldsTo V.takes visitor.old
+            (filter (is_under_some texts.now) (of_kind kind cs)) visitor.new) }
+    {
+        if let [one] = texts {
+            return self.show_indexed(alloc, kind, one.leaf, one.text, visitor);
+        }
+        let ids = self.ids_under(alloc, texts)?;
+        self.show_several(alloc, kind, &ids, visitor)
+    }
+
+    /// Returns the ids of the resources that are indexed under one of the texts.
+    fn ids_under(&self, alloc: Global, texts: &[LeafText<'_>]) -> Result<BTreeSet<Id>, NoMemory>
+        ensures { IfOk result (λ ids. (cs : List Content) → IsCollection cs self.now
+            → (i : List ℕ) → contains (slice_cmp nat_cmp) ids i
+            ≡ is_under_some_in texts.now (find (has_id i) cs)) }
+    {
+        let mut ids = BTreeSet::new(alloc);
+        for own in texts {
+            self.add_ids_under(alloc, own, &mut ids)?;
+        }
+        Ok(ids)
+    }
+
+    /// Adds to `ids` the ids of the resources that are indexed under the text at the leaf.
+    fn add_ids_under(
+        &self,
+        alloc: Global,
+        own: &LeafText<'_>,
+        ids: &mut BTreeSet<Id>,
+    ) -> Result<(), NoMemory>
+        ensures { OnOk result ((cs : List Content) → IsCollection cs self.now
+            → (i : List ℕ) → contains (slice_cmp nat_cmp) ids.new i
+            ≡ (contains (slice_cmp nat_cmp) ids.old i
+            || is_under_at_in own.now.leaf own.now.text.now (find (has_id i) cs))) }
+    {
+        let text = String::from_str(alloc, own.text)?;
+        let leaf = own.leaf;
+        match self.texts.of(&UniqueName { leaf, text }) {
+            Some(holders) => holders.add_to(ids),
+            None => Ok(()),
+        }
     }
 
     /// Passes the resources of the kind that are indexed under the text at the leaf to the visitor, in order of

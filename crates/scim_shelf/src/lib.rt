@@ -15,7 +15,6 @@ mod members;
 mod memory;
 mod owners;
 mod shelf;
-mod some_text_filters;
 mod text_filters;
 mod text_index;
 mod windows;

@@ -7,10 +7,11 @@ ghost use Rattle.scim_shelf.specs.Collections.{IsCollection};
 use crate::changes::Change;
 use crate::collections::Collection;
 use crate::faults::ShelfFault;
+use crate::leaf_texts::LeafText;
 use crate::shelf::{Shelf, Visitor};
 use scim_audit::AuditRow;
 use scim_cell::Id;
-use scim_schema::{Kind, Leaf};
+use scim_schema::Kind;
 use scim_text::{Failed, NoMemory, push};
 use scim_value::{Resource, UniqueName};
 use std::alloc::Global;
@@ -112,15 +113,14 @@ impl Shelf for MemoryShelf {
         Ok(())
     }
 
-    fn each_with<V: Visitor>(
+    fn each_of<V: Visitor>(
         &mut self,
         alloc: Global,
         kind: Kind,
-        leaf: Leaf,
-        text: &str,
+        texts: &[LeafText<'_>],
         visitor: &mut V,
     ) -> Result<(), Failed<ShelfFault>> {
-        Ok(self.collection.show_with(alloc, kind, leaf, text, visitor)?)
+        Ok(self.collection.show_of(alloc, kind, texts, visitor)?)
     }
 
     fn each_from<V: Visitor>(

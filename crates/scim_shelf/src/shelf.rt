@@ -6,18 +6,17 @@ ghost use Rattle.std.specs.List.{FoldsTo};
 ghost use Rattle.std.specs.Option.{option_copied};
 ghost use Rattle.scim_cell.specs.Kinds.{of_kind};
 ghost use Rattle.scim_value.specs.Uniqueness.{name_of};
-ghost use Rattle.scim_shelf.specs.Stores.{Store, AreKeyed, CanKeep, IsOld, is_at, has_name, is_group_with, with_text, with_some_text, those_at, those_found, window, after};
+ghost use Rattle.scim_shelf.specs.Stores.{Store, AreKeyed, CanKeep, IsOld, is_at, has_name, is_group_with, with_some_text, those_at, those_found, window, after};
 ghost use Rattle.scim_shelf.specs.Shelves.{Answers, OnlyReads, ShowsPrefix, TookWindow, Commits};
 
 use crate::changes::Change;
 use crate::faults::ShelfFault;
 use crate::leaf_texts::LeafText;
-use crate::some_text_filters::SomeTextFilter;
 use crate::text_filters::TextFilter;
 use crate::windows::Window;
 use scim_audit::AuditRow;
 use scim_cell::Id;
-use scim_schema::{Kind, Leaf};
+use scim_schema::Kind;
 use scim_text::{Failed, NoMemory};
 use scim_value::{Resource, UniqueName};
 use std::alloc::Global;
@@ -131,33 +130,6 @@ pub trait Shelf {
             V.takes visitor.old (λ store. of_kind kind store.resources) visitor.new }
         ensures read { OnlyReads stands is_honest failures self.old self.new result };
 
-    /// Passes the resources of the kind that have the text at the leaf to the visitor, in order of id. `text` is
-    /// compared as it is: the caller has folded it unless the leaf is caseExact (RFC 7643 section 2.2).
-    ///
-    /// Fails as `by_id` does, and with `NoMemory` if the visitor can't allocate. After the error `Device` the
-    /// visitor has taken a prefix of these resources; after `NoMemory` the visitor is unusable.
-    ///
-    /// Without an index of texts this reads all resources of the kind.
-    fn each_with<V: Visitor>(
-        &mut self,
-        alloc: Global,
-        kind: Kind,
-        leaf: Leaf,
-        text: &str,
-        visitor: &mut V,
-    ) -> Result<(), Failed<ShelfFault>>
-        ensures answer { OnOk result ((store : Store) → stands self.old store → is_honest self.new
-            → FoldsTo V.takes visitor.old
-            (with_text kind leaf text.now store.resources) visitor.new) }
-        ensures prefix { ShowsPrefix stands is_honest self.old self.new result
-            V.takes visitor.old (λ store. with_text kind leaf text.now store.resources)
-            visitor.new }
-        ensures read { OnlyReads stands is_honest failures self.old self.new result }
-    {
-        let mut filter = TextFilter::new(leaf, text, visitor);
-        self.each(alloc, kind, &mut filter)
-    }
-
     /// Passes the resources of the kind that have one of the texts at its leaf to the visitor, in order of id, each
     /// once. The texts are compared as they are: the caller has folded those whose leaf isn't caseExact (RFC 7643
     /// section 2.2).
@@ -181,7 +153,7 @@ pub trait Shelf {
             visitor.new }
         ensures read { OnlyReads stands is_honest failures self.old self.new result }
     {
-        let mut filter = SomeTextFilter::new(texts, visitor);
+        let mut filter = TextFilter::new(texts, visitor);
         self.each(alloc, kind, &mut filter)
     }
 

@@ -39,6 +39,18 @@ fn both(alloc: Global, one: Id, other: Id) -> Result<BTreeSet<Id>, NoMemory>
     Ok(ids)
 }
 
+/// Adds the ids of the set `others` to `ids`.
+fn add_all(others: &BTreeSet<Id>, ids: &mut BTreeSet<Id>) -> Result<(), NoMemory>
+    ensures { OnOk result ((i : List ℕ) → contains (slice_cmp nat_cmp) ids.new i
+        ≡ cond (contains (slice_cmp nat_cmp) others.now i) true
+        (contains (slice_cmp nat_cmp) ids.old i)) }
+{
+    for id in others {
+        ids.insert(*id)?;
+    }
+    Ok(())
+}
+
 impl Holders {
     /// Whether the id is in the set.
     fn has(&self, id: Id) -> bool
@@ -67,6 +79,20 @@ impl Holders {
             }
         }
         Ok(())
+    }
+
+    /// Adds the ids of the set to `ids`.
+    pub(crate) fn add_to(&self, ids: &mut BTreeSet<Id>) -> Result<(), NoMemory>
+        ensures { OnOk result ((i : List ℕ) → contains (slice_cmp nat_cmp) ids.new i
+            ≡ cond (is_holder i self.now) true (contains (slice_cmp nat_cmp) ids.old i)) }
+    {
+        match self {
+            Holders::One(id) => {
+                ids.insert(*id)?;
+                Ok(())
+            }
+            Holders::Several(others) => add_all(others, ids),
+        }
     }
 
     /// Removes the id, and returns whether the set has no other id. If so, the id may still be in the set,

@@ -9,8 +9,8 @@ ghost use Rattle.scim_shelf_watch.specs.Watched.{Represents, numbered, lower_of,
 use crate::watcher::Watcher;
 use scim_audit::AuditRow;
 use scim_cell::Id;
-use scim_schema::{Kind, Leaf};
-use scim_shelf::{Change, Shelf, ShelfFault, Visitor};
+use scim_schema::Kind;
+use scim_shelf::{Change, LeafText, Shelf, ShelfFault, Visitor};
 use scim_text::Failed;
 use scim_value::{Resource, UniqueName};
 use std::alloc::Global;
@@ -179,17 +179,16 @@ impl<S: Shelf, W: Watcher> Shelf for WatchedShelf<S, W> {
         counted(&mut self.failures, self.lower.each(alloc, kind, visitor))
     }
 
-    fn each_with<V: Visitor>(
+    fn each_of<V: Visitor>(
         &mut self,
         alloc: Global,
         kind: Kind,
-        leaf: Leaf,
-        text: &str,
+        texts: &[LeafText<'_>],
         visitor: &mut V,
     ) -> Result<(), Failed<ShelfFault>> {
         counted(
             &mut self.failures,
-            self.lower.each_with(alloc, kind, leaf, text, visitor),
+            self.lower.each_of(alloc, kind, texts, visitor),
         )
     }
 

@@ -4,7 +4,7 @@ use Rattle.std.proofs.lemmas.Result.{on_ok_weaker}
 use Rattle.scim_cell.specs.Kinds.{of_kind}
 use Rattle.scim_shelf.specs.Shelves.{TookPrefix}
 use Rattle.scim_shelf.specs.Stores.{with_some_text}
-use Rattle.scim_shelf.proofs.SomePassLemmas.{passed, passed_prefix}
+use Rattle.scim_shelf.proofs.PassLemmas.{passed, passed_prefix}
 use Rattle.scim_shelf.proofs.shelf.Shelf.each_of.Goals as goal
 
 pub returns-clause-answer : goal.returns-clause-answer
