@@ -8,4 +8,3 @@ pub mod AlikeLemmas
 pub mod ArrangedLemmas
 pub mod Facts
 pub mod KeyLemmas
-pub mod NeededLemmas
