@@ -37,7 +37,7 @@ use Rattle.scim_policy.proofs.Facts.{kept_rows}
 use Rattle.scim_view.specs.View.{decision_in, may_be_seen, may_be_seen_of, shows_some, visible_attributes, visible_by}
 use Rattle.scim_view.specs.Groups.{memberships, rows_with, visible_with}
 use Rattle.scim_view.specs.Sorted.{sorted_by}
-use Rattle.scim_view.proofs.GroupLemmas.{restricted-put_values, seen_values}
+use Rattle.scim_view.proofs.GroupLemmas.{IsGroupsRow, made_rows, own_values, restricted-put_values, seen_values}
 use Rattle.scim_view.proofs.ViewLemmas.{denied_leaf, shows_value}
 
 -- ---- the rows that a test leaves
@@ -174,18 +174,20 @@ module _ (keep : Attribute → Bool) (none : keep Groups ≡ false) where
 abbrev pub of_some : List Attribute → Test → Test
 of_some attributes test r l = list_any (sameb the_attribute r.unit.attribute) attributes && test r l
 
--- what a test leaves of a resource has sound rows with its groups too
-sound_with : (test : Test) (base : List ℕ) (gs : List Content) (c : Content) → IsPart c → AreSound c.kind (restricted test (rows_with (memberships base gs c.id) c))
-sound_with test base gs c part =
-    let ms = memberships base gs c.id in
+-- what a test leaves of a resource has sound rows with values of `groups` too
+pub sound_among : (test : Test) (ms : List Row) (c : Content) → IsPart c → All IsGroupsRow ms → AreSound c.kind (restricted test (rows_with ms c))
+sound_among test ms c part made =
     let own = restricted_sound c.kind test (rows c) (sound_part c part) in
     elim (cases_Bool (sameb the_kind c.kind User)) [
       | inl t ↦
           let fit : AreValues c.kind (whole Groups) (restricted test ms)
-          = subst (λ (k : Kind). AreValues k (whole Groups) (restricted test ms)) (sym (same_true the_kind tt c.kind User t)) (seen_values test base (sorted_by id_cmp (filter (lists c.id) gs))) in
+          = subst (λ (k : Kind). AreValues k (whole Groups) (restricted test ms)) (sym (same_true the_kind tt c.kind User t)) (own_values test ms made) in
           rw t (subst (AreSound c.kind) (sym (restricted-put_values test (whole Groups) ms (rows c))) (put_sound c.kind (whole Groups) (restricted test ms) (restricted test (rows c)) fit own))
       | inr n ↦ rw n own
     ]
+
+sound_with : (test : Test) (base : List ℕ) (gs : List Content) (c : Content) → IsPart c → AreSound c.kind (restricted test (rows_with (memberships base gs c.id) c))
+sound_with test base gs c part = sound_among test (memberships base gs c.id) c part (made_rows base (sorted_by id_cmp (filter (lists c.id) gs)))
 
 -- a test leaves the same rows of some attributes in these alone and in all
 pub some_left : (attributes : List Attribute) (test : Test) (rs : List Row)
@@ -219,7 +221,7 @@ abbrev pub some_leaf : (Leaf → Bool) → Kind → Attribute → Bool
 some_leaf shows kind a = list_any (λ l. sameb the_attribute l.attribute a && shows l) (leaves kind)
 
 -- none of its leaves passes where none does
-hidden_leaf : (shows : Leaf → Bool) (kind : Kind) (a : Attribute) (l : Leaf) → HasLeaf kind l → sameb the_attribute l.attribute a ≡ true → some_leaf shows kind a ≡ false → shows l ≡ false
+pub hidden_leaf : (shows : Leaf → Bool) (kind : Kind) (a : Attribute) (l : Leaf) → HasLeaf kind l → sameb the_attribute l.attribute a ≡ true → some_leaf shows kind a ≡ false → shows l ≡ false
 hidden_leaf shows kind a l there own none =
     let test : Leaf → Bool = λ m. sameb the_attribute m.attribute a && shows m in
     elim (cases_Bool (shows l)) [
@@ -245,7 +247,7 @@ hidden (a ∷ attributes) shows test kind r l within there own none =
       | inr f ↦ rw f (hidden attributes shows test kind r l within there own parts.1)
     ]
 
-no_fields : (p : Field → Bool) (fs : List Field) → All (λ f. p f ≡ false) fs → filter p fs ≡ []
+pub no_fields : (p : Field → Bool) (fs : List Field) → All (λ f. p f ≡ false) fs → filter p fs ≡ []
 no_fields p [] all = refl
 no_fields p (f ∷ fs) all =
     let test : Field → Type 0 = λ g. p g ≡ false in

@@ -230,7 +230,7 @@ restricted_own keeps r h = (
 )
 
 -- the values of `groups` that are left may be put in
-own_values : (keeps : Test) (ms : List Row) → All IsGroupsRow ms → AreValues User (whole Groups) (restricted keeps ms)
+pub own_values : (keeps : Test) (ms : List Row) → All IsGroupsRow ms → AreValues User (whole Groups) (restricted keeps ms)
 own_values keeps ms made =
     let left : List Row = map (restricted_row keeps) ms in
     let own : All IsGroupsRow left = All-map IsGroupsRow (restricted_row keeps) ms (All-weaker IsGroupsRow (λ r. IsGroupsRow (restricted_row keeps r)) (restricted_own keeps) ms made) in
@@ -241,11 +241,14 @@ own_values keeps ms made =
 pub membership_rows : (base : List ℕ) (gs : List (Bor SeenGroup)) → All IsGroupsRow (map (membership_at base) gs)
 membership_rows base gs = All-map IsGroupsRow (membership_at base) gs (λ k d l. (refl, membership_sound base _ _))
 
+pub made_rows : (base : List ℕ) (gs : List Content) → All IsGroupsRow (map (membership base) gs)
+made_rows base gs = All-map IsGroupsRow (membership base) gs (λ k d l. (refl, membership_sound base _ _))
+
 pub membership_values : (keeps : Test) (base : List ℕ) (gs : List (Bor SeenGroup)) → AreValues User (whole Groups) (restricted keeps (map (membership_at base) gs))
 membership_values keeps base gs = own_values keeps (map (membership_at base) gs) (membership_rows base gs)
 
 pub seen_values : (keeps : Test) (base : List ℕ) (gs : List Content) → AreValues User (whole Groups) (restricted keeps (map (membership base) gs))
-seen_values keeps base gs = own_values keeps (map (membership base) gs) (All-map IsGroupsRow (membership base) gs (λ k d l. (refl, membership_sound base _ _)))
+seen_values keeps base gs = own_values keeps (map (membership base) gs) (made_rows base gs)
 
 -- what is visible of a user, with values of `groups`
 pub user_visible : (d : Row → Leaf → Decision) (ms : List Row) (c : Content) → IsPart c → c.kind ≡ User

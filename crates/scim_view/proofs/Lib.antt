@@ -6,6 +6,7 @@ pub mod SortLemmas
 pub mod GroupLemmas
 pub mod SeenRowsLemmas
 pub mod AttributeLemmas
+pub mod ShownPartLemmas
 pub mod UncoveredLemmas
 pub mod NarrowedLemmas
 pub mod MemberLemmas

@@ -41,7 +41,7 @@ abbrev pub AreSingle : (Leaf → Decision) → (Leaf → List PatternRule) → T
 AreSingle d rules = (l : Leaf) → rules l ≡ record { decision = d l; filters = None } ∷ []
 
 -- it decides in each value
-single_decision : (d : Leaf → Decision) (rules : Leaf → List PatternRule) → AreSingle d rules → (λ (r : Row). d) ≡ decision_in rules
+pub single_decision : (d : Leaf → Decision) (rules : Leaf → List PatternRule) → AreSingle d rules → (λ (r : Row). d) ≡ decision_in rules
 single_decision d rules single = sym (fun_ext (λ r. fun_ext (λ l. ap (decided_for (λ t. truth_in_value t r)) (single l))))
 
 pub single_visible : (d : Leaf → Decision) (rules : Leaf → List PatternRule) (c : Content) → AreSingle d rules → visible_by (λ (r : Row). d) c ≡ visible_by (decision_in rules) c

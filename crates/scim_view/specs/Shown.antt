@@ -1,7 +1,12 @@
 -- The projection of a visible part to what a reply shows (RFC 7643 section 7, RFC 7644 section 3.9).
-use Rattle.std.specs.Prelude.{Bool, true, false, not}
+use Rattle.std.specs.Prelude.{Bool, true, false, not, ◌&&◌}
+use Rattle.std.specs.List.{list_any}
+use denote.Enum.Bare.{sameb}
 use Rattle.scim_schema.specs.declared.Kind.{Kind}
 use Rattle.scim_schema.specs.declared.Leaf.{Leaf}
+use Rattle.scim_schema.specs.declared.Attribute.{Attribute}
+use Rattle.scim_schema.specs.contracts.Attribute.{the_type as the_attribute}
+use Rattle.scim_schema.specs.Table.{leaves}
 use Rattle.scim_schema.specs.declared.characteristics.Returned.{Returned}
 use Rattle.scim_schema.specs.declared.characteristics.Returned.TheVariants as returned
 use Rattle.scim_schema.specs.Characteristics.{characteristics_of}
@@ -34,6 +39,10 @@ shows_returned w returned.Request l = shows_requested w l
 -- whether a leaf of a kind is shown to a client that wants these attributes
 abbrev pub shows : Wanted → Kind → Leaf → Bool
 shows w kind l = shows_returned w (characteristics_of kind l).returned l
+
+-- whether some leaf of the attribute is shown, in resources of a kind
+abbrev pub shows_attribute : Wanted → Kind → Attribute → Bool
+shows_attribute w kind a = list_any (λ l. sameb the_attribute l.attribute a && shows w kind l) (leaves kind)
 
 -- the content with only the cells that are shown; the positions of later values move down
 unfoldable pub shown : Wanted → Content → Content

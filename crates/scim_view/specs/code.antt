@@ -1,2 +1,3 @@
 pub mod Memberships
 pub mod Index
+pub mod ShownCells

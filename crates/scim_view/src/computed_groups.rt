@@ -110,7 +110,7 @@ pub(crate) fn visible_with(
 
 /// Returns the values of a user's `groups`, each with the fields that `patterns` let the client read.
 /// Values without a readable field are left out.
-fn memberships(
+pub(crate) fn memberships(
     alloc: Global,
     patterns: &Patterns<'_>,
     groups: &[&SeenGroup],
@@ -211,7 +211,7 @@ fn visible_among(
 }
 
 /// Returns a reference to each of the groups, in their order.
-fn references(alloc: Global, groups: &[SeenGroup]) -> Result<Vec<&SeenGroup>, NoMemory>
+pub(crate) fn references(alloc: Global, groups: &[SeenGroup]) -> Result<Vec<&SeenGroup>, NoMemory>
     ensures { IfOk result (λ v. map (λ g. g.now) v.items ≡ groups.now) }
 {
     let mut lent = Vec::with_capacity(alloc, groups.len())?;

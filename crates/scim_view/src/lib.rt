@@ -10,6 +10,7 @@ mod listing_groups;
 mod lists;
 mod memberships;
 mod projection;
+mod shown_parts;
 mod viewers;
 mod views;
 

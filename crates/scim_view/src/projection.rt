@@ -1,14 +1,17 @@
 //! Projects a visible part to what a reply shows (RFC 7643 section 7, RFC 7644 section 3.9).
-ghost use Rattle.std.specs.Prelude.{◌≡◌, IfOk};
+ghost use Rattle.std.specs.Prelude.{◌≡◌, All, false, true, IfOk, List};
 ghost use Rattle.std.specs.List.{list_all};
-ghost use Rattle.scim_cell.specs.Rows.{rows};
+ghost use Rattle.scim_cell.specs.Content.{Content};
+ghost use Rattle.scim_cell.specs.Rows.{by_leaf, has_fields, restricted, rows};
+ghost use Rattle.scim_view.specs.View.{Viewer};
+ghost use Rattle.scim_view.specs.Groups.{with_groups};
 ghost use Rattle.scim_view.specs.Shown as spec;
 
 use crate::attribute_lists::Names;
 use scim_cell::{Row, RowTest};
-use scim_schema::{Kind, Leaf, Returned, characteristics_of};
-use scim_text::NoMemory;
-use scim_value::Part;
+use scim_schema::{Attribute, Kind, Leaf, Returned, characteristics_of, leaves};
+use scim_text::{NoMemory, push};
+use scim_value::{Part, Resource};
 use std::alloc::Global;
 
 /// The attributes that a client wants in a reply.
@@ -37,9 +40,9 @@ impl Drop for Wanted {
 
 /// A test that keeps the cells that the reply shows, in resources of the kind.
 #[derive(Clone, Copy)]
-struct Shown<'w> {
-    wanted: &'w Wanted,
-    kind: Kind,
+pub(crate) struct Shown<'w> {
+    pub(crate) wanted: &'w Wanted,
+    pub(crate) kind: Kind,
 }
 
 impl RowTest for Shown<'_> {
@@ -53,8 +56,26 @@ impl RowTest for Shown<'_> {
 }
 
 impl Wanted {
+    /// Whether some leaf of the attribute is shown, in resources of the kind.
+    pub fn shows_attribute(&self, kind: Kind, attribute: Attribute) -> bool
+        ensures { result ≡ spec.shows_attribute self.now kind attribute }
+    {
+        leaves(kind).iter().any(|leaf| leaf.attribute == attribute && self.shows(kind, *leaf))
+    }
+
+    /// Whether some leaf of the resource's computed `groups` is shown. If not, a reply shows the same whatever
+    /// groups list the resource.
+    pub fn shows_groups(&self, resource: &Resource) -> bool
+        ensures { result ≡ false → (v : Viewer) (gs hs : List Content)
+            → spec.shown self.now (with_groups v gs resource.now)
+            ≡ spec.shown self.now (with_groups v hs resource.now) }
+    {
+        let part = resource.part();
+        self.shows_attribute(part.kind(), Attribute::Groups)
+    }
+
     /// Whether a leaf of the kind is shown.
-    fn shows(&self, kind: Kind, leaf: Leaf) -> bool
+    pub(crate) fn shows(&self, kind: Kind, leaf: Leaf) -> bool
         ensures { result ≡ spec.shows self.now kind leaf }
     {
         match characteristics_of(kind, leaf).returned {
@@ -102,6 +123,30 @@ pub fn project(alloc: Global, visible: Part, wanted: &Wanted) -> Result<Part, No
     } else {
         visible.restrict(alloc, &shown)
     }
+}
+
+/// Returns the rows with only the fields that the test keeps. Rows without such a field are left out. If all
+/// fields are kept, returns `rows` itself.
+pub(crate) fn project_rows(
+    alloc: Global,
+    rows: Vec<Row>,
+    shown: &Shown<'_>,
+) -> Result<Vec<Row>, NoMemory>
+    requires { All (λ r. has_fields r ≡ true) rows.items }
+    ensures { IfOk result (λ v. v.items
+        ≡ restricted (by_leaf (spec.shows shown.now.wanted.now shown.now.kind)) rows.items) }
+{
+    if shows_all(rows.as_slice(), shown) {
+        return Ok(rows);
+    }
+    let mut left = Vec::new(alloc);
+    for row in &rows {
+        let row = row.restrict(alloc, shown)?;
+        if !row.fields().is_empty() {
+            push(&mut left, row)?;
+        }
+    }
+    Ok(left)
 }
 
 /// Whether the test keeps every field of the rows.

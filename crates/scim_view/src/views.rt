@@ -67,7 +67,7 @@ impl RowJudge for MayBeSeenOf<'_> {
 }
 
 /// Whether the row belongs to one of the attributes.
-fn belongs_to(row: &Row, attributes: &[Attribute]) -> bool
+pub(crate) fn belongs_to(row: &Row, attributes: &[Attribute]) -> bool
     ensures { result ≡ list_any (sameb the_attribute row.now.unit.attribute) attributes.now }
 {
     let own = row.unit().attribute;
@@ -75,7 +75,7 @@ fn belongs_to(row: &Row, attributes: &[Attribute]) -> bool
 }
 
 /// Returns false for each field of the row.
-fn none_kept(alloc: Global, row: &Row) -> Result<Vec<bool>, NoMemory>
+pub(crate) fn none_kept(alloc: Global, row: &Row) -> Result<Vec<bool>, NoMemory>
     ensures { IfOk result (λ v. v.items ≡ map (λ f. false) row.now.fields) }
 {
     let mut kept = Vec::with_capacity(alloc, row.fields().len())?;
