@@ -33,7 +33,7 @@ use Rattle.scim_view.specs.View.{may_be_seen, visible_by}
 use Rattle.scim_view.specs.Groups as spec
 use Rattle.scim_cell.specs.Order.{id_cmp}
 use Rattle.scim_value.specs.Members.{is_text, lists}
-use Rattle.scim_view.specs.Groups.{seen, text_in, display_of, membership_of, membership, membership_at, memberships}
+use Rattle.scim_view.specs.Groups.{seen, text_in, display_of, membership_of, membership, membership_at}
 use Rattle.scim_view.specs.code.Memberships.{kept_of, kept_cmp, lists_shown, names_id}
 use Rattle.scim_view.specs.Sorted.{sorted_by}
 use Rattle.scim_view.proofs.SortLemmas.{sorted_by-map}

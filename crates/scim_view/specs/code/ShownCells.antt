@@ -1,5 +1,5 @@
 -- The cells that a client sees and a reply shows.
-use Rattle.std.specs.Prelude.{Bool, not, ◌&&◌, List, filter}
+use Rattle.std.specs.Prelude.{not, ◌&&◌, List, filter}
 use Rattle.std.specs.List.{list_any}
 use denote.Enum.Bare.{sameb}
 use Rattle.scim_schema.specs.declared.Kind.{Kind}

@@ -1,4 +1,4 @@
-use Rattle.std.proofs.Common.{◌≡◌, true, sym, ◌∙◌, ap, List}
+use Rattle.std.proofs.Common.{◌≡◌, true, sym, ◌∙◌, ap}
 use Rattle.std.specs.List.{list_all}
 use Rattle.scim_cell.specs.Rows.{Row}
 use Rattle.scim_view.specs.Shown.{shows}

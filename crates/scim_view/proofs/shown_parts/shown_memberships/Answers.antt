@@ -1,7 +1,6 @@
-use Rattle.std.proofs.Common.{◌≡◌, true, sym, ◌∙◌, ap, subst, List, map}
+use Rattle.std.proofs.Common.{◌≡◌, true, sym, ◌∙◌, ap, subst, map}
 use Rattle.std.specs.Prelude.{All}
 use Rattle.std.proofs.lemmas.Result.{IfOk-weaker}
-use Rattle.std.specs.Global.{Vec}
 use Rattle.scim_schema.specs.declared.Kind.TheVariants.{User}
 use Rattle.scim_cell.specs.Rows.{Row, by_leaf, has_fields, restricted}
 use Rattle.scim_policy.specs.PatternTable.{rules_in}
