@@ -39,8 +39,9 @@ use std::collections::{BTreeMap, BTreeSet};
 /// [`indexed_leaves`], members' values among them.
 ///
 /// A look-up by id searches a tree. A look-up by unique name or by text finds the ids in a tree of names or of
-/// texts and then searches the tree of resources for each id, without reading the values of any resource. Making
-/// a change reads only the stored resource that has the id of the change.
+/// texts and then searches the tree of resources for each id, without reading the values of any resource. A page
+/// of the resources of a kind is found by their ids: it reads none before it. Making a change reads only the stored
+/// resource that has the id of the change.
 pub(crate) struct Collection {
     by_id: BTreeMap<Id, Resource>,
     owners: Owners,

@@ -43,7 +43,7 @@ impl<'v, V: Visitor> Window<'v, V> {
     }
 
     /// Whether the window ends before the next resource.
-    pub(crate) fn is_past(&self) -> bool
+    fn is_past(&self) -> bool
         ensures { IsTrue result ↔ (self.now.skipped + self.now.count ≤ self.now.shown) }
     {
         self.shown >= self.skipped && self.shown - self.skipped >= self.count
