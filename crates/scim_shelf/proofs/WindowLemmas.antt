@@ -9,7 +9,7 @@ use Rattle.scim_shelf.specs.Shelves.{TookPrefix}
 use Rattle.scim_shelf.specs.Stores.{window}
 use Rattle.scim_shelf.specs.Windows.{PassesWindow}
 
--- what is left of a window after so many resources
+-- the resources of a window that come after the first `shown` resources of the list; `cs` is the list without these
 abbrev pub left : ℕ → ℕ → ℕ → List Content → List Content
 left skipped count shown cs = window (skipped - shown) (count - (shown - skipped)) cs
 

@@ -1,5 +1,5 @@
 //! The store of a service: where its resources and its audit rows are kept.
-ghost use Rattle.std.specs.Prelude.{◌≡◌, ℕ, List, IfOk, OnOk, Err, find, filter};
+ghost use Rattle.std.specs.Prelude.{◌≡◌, ℕ, IfOk, OnOk, Err, find, filter};
 ghost use Rattle.scim_text.specs.declared.memory.Failed.TheVariants.{Because};
 ghost use Rattle.scim_shelf.specs.declared.faults.ShelfFault.TheVariants.{Device};
 ghost use Rattle.std.specs.List.{FoldsTo};
