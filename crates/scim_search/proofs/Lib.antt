@@ -3,6 +3,7 @@ pub mod Facts
 pub mod ListLemmas
 pub mod LookupLemmas
 pub mod NameLemmas
+pub mod SomeTextLemmas
 pub mod StoreViews
 pub mod TextLemmas
 pub mod VisitLemmas

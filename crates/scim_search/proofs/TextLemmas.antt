@@ -1,4 +1,4 @@
--- A resource in which a filter's text stands at an indexed leaf has that text.
+-- What is seen to be the text at a leaf of texts is the text in the resource.
 use Rattle.std.proofs.Common.{◌≡◌, refl, sym, ◌∙◌, subst, ℕ, Bool, true, false, List, [], ◌∷◌, inl, inr}
 use Rattle.std.specs.Prelude.{All, Option, None, Some, if◌then◌else◌}
 use Rattle.std.specs.Ordering.{is_eq}
@@ -25,18 +25,17 @@ use Rattle.scim_cell.specs.declared.atoms.Atom.{Atom}
 use Rattle.scim_cell.specs.declared.atoms.Atom.TheVariants.{Text, Truth, Moment}
 use Rattle.scim_cell.specs.declared.rows.Field.{Field}
 use Rattle.scim_cell.specs.Place.{unit_cmp}
-use Rattle.scim_cell.specs.Content.{HasType}
+use Rattle.scim_cell.specs.Content.{Content, IsPart, HasType}
 use Rattle.scim_cell.specs.Rows.{Row, rows, values, atom_in, IsSoundField, IsSoundRow}
 use Rattle.scim_value.proofs.Facts.{sound_part}
-use Rattle.scim_filter_grammar.specs.declared.tree.Filter.{Filter}
 use Rattle.scim_filter_grammar.specs.declared.tree.Literal.TheVariants as literal
 use Rattle.scim_filter_grammar.specs.declared.tree.Operator.TheVariants.{Eq}
 use Rattle.scim_filter.specs.Relation.{cased, stands}
-use Rattle.scim_query.specs.Needed.{NeedsText}
+use Rattle.scim_filter_texts.specs.Needed as needed
+use Rattle.scim_view.specs.View.{Viewer}
 use Rattle.scim_view.specs.Groups.{with_groups}
 use Rattle.scim_view.proofs.Facts.{any_weaker, seen_in_value, some_passes}
 use Rattle.scim_shelf.specs.Stores.{compared_text, has_text, is_compared}
-use Rattle.scim_search.specs.Lookups.{OnlyThose}
 
 -- ---- what may stand at a leaf
 
@@ -88,12 +87,10 @@ equal_compared kind l text leaf (Some a) fits e =
     let texts : cased (is_case_exact l) text ≡ compared_text l found.0 = sym found.2 ∙ sym (known (is_case_exact l) found.0) in
     rw found.1 ((bytes_decides _ _).1 texts)
 
--- where no part matches in which a text doesn't stand at the leaf, only a resource with that text can match
-abbrev pub TextsByNeed : Kind → Leaf → Type 0
-TextsByNeed kind leaf = (f : Option Filter) (text : List ℕ) → NeedsText f leaf text → OnlyThose kind f (has_text leaf (cased (is_case_exact leaf) text))
-
-by_need : (kind : Kind) (l : Leaf) → IsTextLeaf kind l → TextsByNeed kind l
-by_need kind l leaf f text needs v gs c is sound matches =
+-- a text that is seen at such a leaf of a resource stands there in the resource
+pub stored_text : (kind : Kind) (l : Leaf) (text : List ℕ) → IsTextLeaf kind l → (v : Viewer) (gs : List Content) (c : Content) → c.kind ≡ kind → IsPart c
+    → needed.has_text l text (rows (with_groups v gs c)) ≡ true → has_text l (cased (is_case_exact l) text) c ≡ true
+stored_text kind l text leaf v gs c is part has =
     let passes : Atom → Bool = λ a. stands (is_case_exact l) Eq a (literal.Text text) in
     let seen : Row → Bool = λ r. some_passes passes (atom_in l r.fields) in
     let known_text : Row → Bool = λ r. is_compared l (cased (is_case_exact l) text) (atom_in l r.fields) in
@@ -101,18 +98,15 @@ by_need kind l leaf f text needs v gs c is sound matches =
     any_weaker seen known_text vs
     (All-weaker (IsSoundRow c.kind) (λ (r : Row). seen r ≡ true → known_text r ≡ true)
     (λ r own. equal_compared kind l text leaf (atom_in l r.fields) (subst (λ (k : Kind). FitsLeaf k l (atom_in l r.fields)) is (fits_in c.kind r.unit l r.fields own.own))) vs
-    (All-filter (λ (r : Row). is_eq (unit_cmp r.unit (unit_of l))) (IsSoundRow c.kind) (rows c) (sound_part c sound.part).own))
-    (seen_in_value passes l v gs c leaf.stored sound.part (needs (with_groups v gs c) matches))
+    (All-filter (λ (r : Row). is_eq (unit_cmp r.unit (unit_of l))) (IsSoundRow c.kind) (rows c) (sound_part c part).own))
+    (seen_in_value passes l v gs c leaf.stored part has)
 
-text_leaves : (kind : Kind) → All (IsTextLeaf kind) (indexed_leaves kind)
+pub indexed_text_leaves : (kind : Kind) → All (IsTextLeaf kind) (indexed_leaves kind)
 unfolding indexed_leaves
-text_leaves User =
+indexed_text_leaves User =
     All-cons (IsTextLeaf User) (simple ExternalId) (leaf_at Emails Value ∷ []) (record { stored = refl; type = refl })
     (All-cons (IsTextLeaf User) (leaf_at Emails Value) [] (record { stored = refl; type = refl }) (All-nil (IsTextLeaf User)))
-text_leaves Group =
+indexed_text_leaves Group =
     All-cons (IsTextLeaf Group) (simple ExternalId) (simple DisplayName ∷ leaf_at Members Value ∷ []) (record { stored = refl; type = refl })
     (All-cons (IsTextLeaf Group) (simple DisplayName) (leaf_at Members Value ∷ []) (record { stored = refl; type = refl })
     (All-cons (IsTextLeaf Group) (leaf_at Members Value) [] (record { stored = refl; type = refl }) (All-nil (IsTextLeaf Group))))
-
-pub texts_by_need : (kind : Kind) → All (TextsByNeed kind) (indexed_leaves kind)
-texts_by_need kind = All-weaker (IsTextLeaf kind) (TextsByNeed kind) (λ l leaf. by_need kind l leaf) (indexed_leaves kind) (text_leaves kind)

@@ -19,7 +19,7 @@ use Rattle.scim_view.specs.Groups.{with_groups, visible_with, views}
 use Rattle.scim_query.specs.declared.queries.Query.{Query}
 use Rattle.scim_query.specs.declared.queries.Page.{Page}
 use Rattle.scim_query.specs.Pages.{matching, first_position, slice_of, IsPage}
-use Rattle.scim_query.proofs.PagerLemmas.{in_order_of_id}
+use Rattle.scim_query.proofs.Facts.{in_order_of_id}
 use Rattle.scim_shelf.specs.Stores.{Store, IsStore, window}
 use Rattle.scim_search.specs.declared.unfiltered.IdVisitor.{IdVisitor}
 use Rattle.scim_search.specs.Unfiltered.{TakesId}
@@ -31,7 +31,7 @@ use Rattle.scim_search.proofs.WalkLemmas.{all_seen, all_walked}
 abbrev ids : List Content → List (List ℕ)
 ids cs = map (λ (c : Content). c.id) cs
 
--- a visitor that was shown some resources has their ids
+-- a visitor that has taken some resources has their ids
 pub took_ids : (first : IdVisitor) (cs : List Content) (last : IdVisitor) → FoldsTo TakesId first cs last
     → ids last.items.items ≡ ids first.items.items ++ ids cs
 took_ids first [] last same = rw (← same) (sym (append-nil (ids first.items.items)))
@@ -44,7 +44,7 @@ all_match [] = refl
 all_match (p ∷ ps) = ap (λ (xs : List Content). p ∷ xs) (all_match ps)
 
 module _ (v : Viewer) (gs : List Content) where
-  -- resources that are all seen, and what is seen of them
+  -- if the viewer sees all resources, the view has all of them
   all_kept : (cs : List Content) → All (λ c. sees v c ≡ true) cs → filter (sees v) cs ≡ cs
   all_kept [] seen = refl
   all_kept (c ∷ cs) seen = rw (All-head (λ d. sees v d ≡ true) c cs seen) (ap (λ (ds : List Content). c ∷ ds) (all_kept cs (All-tail (λ d. sees v d ≡ true) c cs seen)))
@@ -71,11 +71,11 @@ module _ (v : Viewer) (kind : Kind) (query : Query) (base : List ℕ) (store : S
   each_seen : All (λ c. sees v c ≡ true) all
   each_seen k d lt = seen _ (same_true the_kind tt _ kind (filter_passes (is_of kind) store.resources k d lt))
 
-  -- the items are those of the window
+  -- the whole items of a window are the visible parts of the resources in the window
   pub window_whole : (items whole : List Content) → ids items ≡ ids shown → AreWhole v kind store.resources items whole
       → whole ≡ map (with_groups v groups) shown
   window_whole items whole same are =
-      let walk : Walk = record { kind = kind; text = None } in
+      let walk : Walk = record { kind = kind; texts = None } in
       let found = all_seen v walk base store is in
       let part : List (SeenResource v kind store.resources) = take query.count (drop (query.start - 1) found.0) in
       let own : map (λ (x : SeenResource v kind store.resources). x.own) found.0 ≡ all = found.1 ∙ ap (filter (sees v)) (sym (all_walked all)) ∙ all_kept v groups all each_seen in
@@ -85,7 +85,7 @@ module _ (v : Viewer) (kind : Kind) (query : Query) (base : List ℕ) (store : S
       are part (same ∙ ap ids (sym those) ∙ map-map (λ (c : Content). c.id) (λ (x : SeenResource v kind store.resources). x.own) part)
       ∙ sym (map-map (with_groups v groups) (λ (x : SeenResource v kind store.resources). x.own) part) ∙ ap (map (with_groups v groups)) those
 
-  -- the page of a window of all
+  -- the page of a query without a filter or a sort key is a window of all resources
   pub window_page : (page : Page) → query.filter ≡ None → query.sort_by ≡ None → page.total ≡ length all → page.start ≡ first_position query.start
       → page.items.items ≡ map (with_groups v groups) shown → IsPage (views v groups all) query page
   window_page page no_filter no_key total start items =

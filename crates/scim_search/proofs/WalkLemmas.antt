@@ -1,4 +1,4 @@
--- A search that looks at some attributes alone, and makes the items of its page whole, finds what a search over whole resources finds.
+-- The page of a search that evaluates only some attributes has the same items as that of a search over whole resources.
 use Rattle.std.proofs.Common.{◌≡◌, refl, sym, ◌∙◌, ap, subst, ℕ, zero, suc, true, false, List, [], ◌∷◌, ◌++◌, map, filter, slice_index_or, length, append_assoc, inl, inr, arith, true≢false}
 use Rattle.std.specs.Prelude.{not, ◌&&◌, ◌==◌, All, AllPairs, Option, None, Some, find}
 use Rattle.std.specs.List.{list_any}
@@ -60,12 +60,12 @@ use Rattle.scim_search.specs.Walks.{SeenResource, is_walked, made_of_walk, walke
 use Rattle.scim_search.proofs.ApartLemmas.{none_at}
 use Rattle.scim_search.proofs.StoreViews.{parts_of, made_map, made_views}
 
--- ---- each resource of a kind that is seen, with what is known of it
+-- ---- the resources of a kind that the viewer sees
 
 own_id : (kind : Kind) (c : Content) → is_of kind c ≡ true → is_at kind c.id c ≡ true
 own_id kind c is = rw is ((bytes_eq-Decides c.id c.id).1 refl)
 
--- each resource is the one that is found by its id
+-- each resource of a kind is the one that a look-up of its id finds
 pub found_each : (kind : Kind) (cs : List Content) → AllPairs AreApart cs → All (λ c. is_of kind c ≡ true → find (is_at kind c.id) cs ≡ Some c) cs
 found_each kind [] apart k d lt = absurd (omega (arith, lt))
 found_each kind (e ∷ es) apart zero d lt = λ is. rw (own_id kind e is) refl
@@ -76,7 +76,7 @@ found_each kind (e ∷ es) apart (suc k) d lt = λ is.
     = false_from_ne_true _ (λ same. true≢false (sym (own_id kind c is) ∙ none_at kind c.id e c two same)) in
     rw other (found_each kind es (λ i j f h l. apart (suc i) (suc j) f (omega arith) (omega (arith, l))) k d (omega (arith, lt)) is)
 
--- the groups that list a resource: each is the one that is found by its id, and lists it
+-- each group that lists a resource is the one that a look-up of its id finds
 pub groups_found : (base : List ℕ) (store : Store) → IsStore base store → (id : List ℕ)
     → All (λ c. find (is_at Group c.id) store.resources ≡ Some c) (filter (is_group_with (id_text id)) store.resources)
 groups_found base store is id k d lt =
@@ -92,34 +92,34 @@ groups_list id cs k d lt =
     let c : Content = slice_index_or (filter (is_group_with (id_text id)) cs) k d in
     and_second (is_of Group c) (lists id c) (filter_passes (is_group_with (id_text id)) cs k d lt)
 
--- each resource of a kind is the one that is found by its id
+-- each resource of a kind is the one that a look-up of its id finds
 pub kind_found : (base : List ℕ) (store : Store) → IsStore base store → (kind : Kind)
     → All (λ c. find (is_at kind c.id) store.resources ≡ Some c) (of_kind kind store.resources)
 kind_found base store is kind k d lt =
     let cs = store.resources in
     All-filter (is_of kind) (λ c. is_of kind c ≡ true → find (is_at kind c.id) cs ≡ Some c) cs (found_each kind cs is.keyed.apart) k d lt (filter_passes (is_of kind) cs k d lt)
 
--- where no text is given, all resources of the kind are walked
+-- if no texts are given, a search reads all resources of the kind
 pub all_walked : (cs : List Content) → cs ≡ filter (is_walked None) cs
 all_walked [] = refl
 all_walked (c ∷ cs) = ap (λ (ds : List Content). c ∷ ds) (all_walked cs)
 
--- each resource of a walk is the one that is found by its id
+-- each resource that a search reads is the one that a look-up of its id finds
 pub walked_found : (base : List ℕ) (store : Store) → IsStore base store → (walk : Walk)
     → All (λ c. find (is_at walk.kind c.id) store.resources ≡ Some c) (walked walk store.resources)
-walked_found base store is walk = All-filter (is_walked walk.text) (λ c. find (is_at walk.kind c.id) store.resources ≡ Some c) (of_kind walk.kind store.resources) (kind_found base store is walk.kind)
+walked_found base store is walk = All-filter (is_walked walk.texts) (λ c. find (is_at walk.kind c.id) store.resources ≡ Some c) (of_kind walk.kind store.resources) (kind_found base store is walk.kind)
 
--- and is of the kind
+-- each resource that a search reads is of the kind
 pub walked_kind : (walk : Walk) (cs : List Content) → All (λ c. c.kind ≡ walk.kind) (walked walk cs)
 walked_kind walk cs k d lt =
-    same_true the_kind tt _ walk.kind (All-filter (is_walked walk.text) (λ c. is_of walk.kind c ≡ true) (of_kind walk.kind cs) (filter_passes (is_of walk.kind) cs) k d lt)
+    same_true the_kind tt _ walk.kind (All-filter (is_walked walk.texts) (λ c. is_of walk.kind c ≡ true) (of_kind walk.kind cs) (filter_passes (is_of walk.kind) cs) k d lt)
 
--- and a part
+-- each resource that a search reads is a part
 walked_parts : (base : List ℕ) (store : Store) → IsStore base store → (walk : Walk) → All IsPart (walked walk store.resources)
 walked_parts base store is walk =
-    All-filter (is_walked walk.text) IsPart (of_kind walk.kind store.resources) (All-filter (is_of walk.kind) IsPart store.resources (parts_of base store is))
+    All-filter (is_walked walk.texts) IsPart (of_kind walk.kind store.resources) (All-filter (is_of walk.kind) IsPart store.resources (parts_of base store is))
 
--- what is known of each resource of a walk that is seen
+-- a resource that a search reads and the viewer sees: it is of the kind, and a look-up of its id finds it
 record Known (v : Viewer) (kind : Kind) (cs : List Content) (c : Content) : Type 0 where
   part : IsPart c
   is_kind : c.kind ≡ kind
@@ -138,7 +138,7 @@ known_each v walk base store is k d lt =
     }
 
 module _ (v : Viewer) (kind : Kind) (cs : List Content) where
-  -- a list of resources of which that is known
+  -- a list of such resources as a list of `SeenResource`
   with_known : (ds : List Content) → All (Known v kind cs) ds → (xs : List (SeenResource v kind cs)) × (map (λ x. x.own) xs ≡ ds)
   with_known [] known = ([], refl)
   with_known (d ∷ ds) known =
@@ -154,7 +154,7 @@ all_seen v walk base store is = with_known v walk.kind store.resources _ (known_
 
 -- ---- pages
 
--- what is seen of the attributes alone that a query names
+-- the visible part of a resource with only the attributes that a query names
 abbrev small : Viewer → Query → Content → Content
 small v query c = visible_attributes (attributes_of query) (read_in v c) c
 
@@ -172,13 +172,13 @@ module _ (v : Viewer) (walk : Walk) (gs : List Content) (query : Query) (base : 
   abbrev whole_of : SeenResource v walk.kind store.resources → Content
   whole_of x = with_groups v gs x.own
 
-  -- what is made of all that is seen, by the list of those
+  -- the list of what is made of each resource that the viewer sees
   made_seen : (make : Content → Content) → made_of_all make v cs ≡ map (λ x. make x.own) (all_seen v walk base store is).0
   made_seen make =
       let xs = all_seen v walk base store is in
       made_map make v cs ∙ ap (map make) (sym xs.1) ∙ map-map make (λ (x : SeenResource v walk.kind store.resources). x.own) xs.0
 
-  -- the page by small parts shows some resources; the same with these whole is the page of the view
+  -- a page over parts with only the named attributes becomes the page of the view when its items become whole
   pub page_by_small : (found : Page) → IsPage (made_of_all (small v query) v cs) query found
       → (shown : List (SeenResource v walk.kind store.resources)) × (found.items.items ≡ map small_of shown)
       × ((page : Page) → page.total ≡ found.total → page.start ≡ found.start → page.items.items ≡ map whole_of shown → IsPage (views v gs cs) query page)
@@ -192,12 +192,12 @@ module _ (v : Viewer) (walk : Walk) (gs : List Content) (query : Query) (base : 
             subst (λ (ps : List Content). IsPage ps query page) (sym (made_seen (with_groups v gs)) ∙ made_views v gs cs) (chosen.2 page total start items),
       )
 
--- a sight of some attributes is one of any groups
+-- a builder of named attributes is a view builder for any groups
 pub named_sight : (viewer : Bor ViewerInCode) (attributes : Bor (List Attribute)) (patterns : Bor ReadPatterns) (builder : ViewBuilder) → ArePatterns (viewer_of viewer.now) patterns.now
     → builder ≡ record { viewer = viewer; patterns = patterns; scope = Named attributes } → IsViewBuilder [] builder
 named_sight viewer attributes patterns builder are same = subst (IsViewBuilder []) (sym same) (record { patterns = are; index = tt })
 
--- the page by what is made at a sight of the attributes that a query names
+-- the page over parts with only the attributes that a query names
 pub named_page : (viewer : Bor ViewerInCode) (walk : Walk) (query : Query) (base : List ℕ) (store : Store) → IsStore base store → (attributes : Bor (List Attribute)) → attributes.now ≡ attributes_of query
     → names_groups query ≡ false → (found : Page) (patterns : Bor ReadPatterns) (builder : ViewBuilder) → ArePatterns (viewer_of viewer.now) patterns.now
     → builder ≡ record { viewer = viewer; patterns = patterns; scope = Named attributes }
@@ -225,7 +225,7 @@ pub empty_list : {X : Type 0} (xs : List X) → (length xs == 0) ≡ true → xs
 empty_list [] e = refl
 empty_list (x ∷ xs) e = grind (arith, e)
 
--- nothing is shown where there is no part
+-- a list of which nothing is made is empty, so nothing else is made of it
 pub none_shown : {X Y : Type 0} (f g : X → Y) (xs : List X) → map f xs ≡ [] → map g xs ≡ []
 none_shown f g [] e = refl
 none_shown f g (x ∷ xs) e = cc
@@ -239,7 +239,7 @@ module _ (v : Viewer) (kind : Kind) (cs gs : List Content) where
   abbrev whole : List (SeenResource v kind cs) → List Content
   whole shown = map (λ (x : SeenResource v kind cs). with_groups v gs x.own) shown
 
-  -- the part of the first resource, and then those of the others, by what is told of groups after the first
+  -- the part of the first resource, then those of the others
   pub pushed_more : (Told : Type 0) (item : Content) (rest : List Content) (shown : List (SeenResource v kind cs)) (found : Option Content) (old mid new : List Content)
       → map (λ (p : Content). p.id) (item ∷ rest) ≡ own_ids shown → found ≡ find (is_at kind item.id) cs
       → ((c : Content) → found ≡ Some c → find (is_at kind c.id) cs ≡ Some c → Told × (mid ≡ old ++ and_those (view_with_groups v gs c) []))
@@ -254,7 +254,7 @@ module _ (v : Viewer) (kind : Kind) (cs gs : List Content) where
       let one : mid ≡ old ++ with_groups v gs x.own ∷ [] = rw x.seen at told.1 in
       later told.0 xs others ∙ ap (λ (ps : List Content). ps ++ whole xs) one ∙ append_assoc old (with_groups v gs x.own ∷ []) (whole xs)
 
--- ---- whether the viewer sees a resource, by the rules of its `id`
+-- ---- whether the viewer sees a resource, by the rules on its `id`
 
 pub seen_by : (v : Viewer) (c : Content) (ps : Patterns) → AreFor v c ps → (whole_decision (decisions_of (rules_in ps (simple Id)))).allow ≡ sees v c
 unfolding sees decide
@@ -262,7 +262,7 @@ seen_by v c ps are = ap (λ (rs : List PatternRule). (whole_decision (decisions_
 
 -- ---- resources that can't match
 
--- what never matches by patterns isn't seen to match, where they are those on reading it
+-- if no resource with these patterns can match, one on which they are the viewer's patterns doesn't match
 pub never_seen : (f : Option Filter) (ps : Patterns) (v : Viewer) (gs : List Content) (c : Content) → AreFor v c ps → NeverMatches f (decision_in (rules_in ps)) c
     → is_match f (with_groups v gs c) ≡ false
 unfolding with_groups decide_in
@@ -280,34 +280,34 @@ none_match f v gs (c ∷ cs) never =
       | inr u ↦ rw u rest
     ]
 
--- the page of none is that of the view, where no resource of the kind can match
+-- if no resource of the kind can match, nothing of the view matches
 pub none_matches : (v : Viewer) (walk : Walk) (gs : List Content) (f : Option Filter) (base : List ℕ) (store : Store) → IsStore base store
     → ((c : Content) → IsPart c → c.kind ≡ walk.kind → sees v c ≡ true → is_match f (with_groups v gs c) ≡ false)
     → [] ≡ matching f (views v gs (walked walk store.resources))
 none_matches v walk gs f base store is never =
     none_match f v gs (walked walk store.resources) (λ k d lt. never _ (walked_parts base store is walk k d lt) (walked_kind walk store.resources k d lt))
 
--- ---- patterns that are kept
+-- ---- cached patterns
 
--- patterns on a resource that is found by its id are those on the one of that id
+-- the viewer's patterns on a resource that a look-up of an id finds are those on the resource with that id
 pub on_found : (v : Viewer) (kind : Kind) (cs : List Content) (id : List ℕ) (c : Content) (ps : Patterns) → id ≡ c.id
     → find (is_at kind c.id) cs ≡ Some c → AreFor v c ps → AreOn v kind cs id ps
 on_found v kind cs id c ps same found are e at =
     let one : Some c ≡ Some e = sym found ∙ ap (λ (i : List ℕ). find (is_at kind i) cs) (sym same) ∙ at in
     subst (λ (x : Content). AreFor v x ps) (same_Some c e one) are
 
--- ---- what may be seen of some attributes
+-- ---- which attributes are visible
 
--- by patterns that are those on reading a resource
+-- the attributes that are visible by the viewer's patterns on reading a resource
 pub made_attributes : (attributes : List Attribute) (ps : Patterns) (v : Viewer) (c : Content) → AreFor v c ps → visible_attributes attributes (decision_in (rules_in ps)) c ≡ visible_attributes attributes (read_in v c) c
 unfolding decide_in
 made_attributes attributes ps v c are = ap (λ (rules : Leaf → List PatternRule). visible_attributes attributes (decision_in rules) c) (fun_ext are)
 
--- the pattern of each leaf of these attributes is its last rule
+-- each leaf of these attributes has only the pattern of its last rule
 abbrev pub ArePlainOn : List Attribute → Patterns → Type 0
 ArePlainOn attributes ps = (l : Leaf) → list_any (sameb the_attribute l.attribute) attributes ≡ true → rules_in ps l ≡ record { decision = last_decision ps l; filters = None } ∷ []
 
--- then the last rules make visible what all do
+-- then the last rules make the same fields visible as all rules
 plain_field : (attributes : List Attribute) (ps : Patterns) (kind : Kind) (r : Row) (f : Field) → ArePlainOn attributes ps → IsSoundField kind r.unit f
     → may_be_seen_of attributes (λ q. last_decision ps) kind r f.leaf ≡ may_be_seen_of attributes (decision_in (rules_in ps)) kind r f.leaf
 plain_field attributes ps kind r f plain sound = elim (cases_Bool (list_any (sameb the_attribute r.unit.attribute) attributes)) [
@@ -327,7 +327,7 @@ plain_rows attributes ps c part plain =
     (All-weaker (IsSoundRow c.kind) (AreAlike by_last by_all)
     (λ r sound. All-weaker (IsSoundField c.kind r.unit) (λ (f : Field). by_last r f.leaf ≡ by_all r f.leaf) (λ f own. plain_field attributes ps c.kind r f plain own) r.fields sound.own) (rows c) (sound_part c part).own)
 
--- so the test of the last rules keeps of a resource what may be seen of the attributes
+-- so the test of the last rules keeps the visible part with the named attributes
 pub named_part : (test : MayBeSeenPlainlyOf) (attributes : Bor (List Attribute)) (kind : Kind) (patterns : Bor Patterns) (v : Viewer) (part c : Content)
     → test ≡ record { attributes = attributes; seen = record { kind = kind; patterns = patterns } } → kind ≡ c.kind → part ≡ c → IsPart c → ArePlainOn attributes.now patterns.now → AreFor v c patterns.now
     → restricted_part (may_be_seen_of test.attributes.now (λ q. last_decision test.seen.patterns.now) test.seen.kind) part ≡ visible_attributes attributes.now (read_in v c) c

@@ -1,15 +1,20 @@
--- Searches over all resources of a kind, or over all that have a text.
-use Rattle.std.specs.Prelude.{◌≡◌, Bool, true, List, Option, None, Some, map, find, filter}
+-- Searches over all resources of a kind, or over all that have one of some texts.
+use Rattle.std.specs.Prelude.{◌≡◌, ℕ, Bool, true, List, Option, None, Some, Vec, map, find, filter}
+use Rattle.std.specs.declared.alloc.Global.{Global}
+use Rattle.scim_schema.specs.declared.Leaf.{Leaf}
+use Rattle.scim_schema.specs.Characteristics.{is_case_exact}
 use Rattle.scim_schema.specs.declared.Kind.{Kind}
 use Rattle.scim_schema.specs.declared.Kind.TheVariants.{Group}
 use Rattle.scim_cell.specs.Content.{Content, IsPart}
 use Rattle.scim_cell.specs.Kinds.{of_kind}
+use Rattle.scim_filter.specs.Relation.{cased}
+use Rattle.scim_filter_texts.specs.declared.needs.NeededText.{NeededText}
 use Rattle.scim_view.specs.declared.group_index.GroupIndex.{GroupIndex}
 use Rattle.scim_view.specs.View.{Viewer, viewer_of, sees}
 use Rattle.scim_view.specs.Groups.{with_groups}
 use Rattle.scim_view.specs.Indexes.{IsIndexOf}
-use Rattle.scim_shelf.specs.Stores.{has_text, is_at}
-use Rattle.scim_search.specs.declared.texts.IndexedText.{IndexedText}
+use Rattle.scim_shelf.specs.declared.leaf_texts.LeafText.{LeafText}
+use Rattle.scim_shelf.specs.Stores.{has_some_text, is_at}
 use Rattle.scim_search.specs.declared.view_builders.ViewBuilder.{ViewBuilder}
 use Rattle.scim_search.specs.declared.walks.Walk.{Walk}
 use Rattle.scim_search.specs.declared.whole_items.ItemBuilder.{ItemBuilder}
@@ -17,14 +22,19 @@ use Rattle.scim_search.specs.PatternCache.{Recalls}
 use Rattle.scim_search.specs.ReadPatterns.{ArePatterns}
 use Rattle.scim_search.specs.ViewBuilders.{made, made_of_all}
 
--- whether a resource has the text at the indexed leaf; always true if no text is given
-abbrev pub is_walked : Option IndexedText → Content → Bool
+-- the texts are those of the list, as comparisons at their leaves use them
+abbrev pub AreCompared : List NeededText → List LeafText → Type 0
+AreCompared needed texts =
+    map {B = Leaf × List ℕ} (λ (t : LeafText). (t.leaf, t.text.now)) texts ≡ map {B = Leaf × List ℕ} (λ (t : NeededText). (t.leaf, cased (is_case_exact t.leaf) t.text.now)) needed
+
+-- whether a resource has one of the texts at its leaf; always true if no texts are given
+abbrev pub is_walked : Option (Vec LeafText Global) → Content → Bool
 is_walked None c = true
-is_walked (Some t) c = has_text t.leaf t.text.now c
+is_walked (Some texts) c = has_some_text texts.items c
 
 -- the resources that a search reads, in order of id
 abbrev pub walked : Walk → List Content → List Content
-walked walk cs = filter (is_walked walk.text) (of_kind walk.kind cs)
+walked walk cs = filter (is_walked walk.texts) (of_kind walk.kind cs)
 
 -- with the groups of the index, the viewer has the same view of each resource of the kind as with all groups
 -- of the store

@@ -14,10 +14,10 @@ ghost use Rattle.scim_shelf.specs.Stores.{has_name, is_at};
 ghost use Rattle.scim_search.specs.Lookups as spec;
 
 use crate::groups_of_resource::view_beside;
-use crate::texts::compared_text;
 use crate::visitors::ListingVisitor;
 use scim_cell::Id;
 use scim_filter_grammar::StringLiteral;
+use scim_filter_texts::compared_text;
 use scim_query::{Page, Pager, Query};
 use scim_schema::{Attribute, Kind, Leaf, unique_leaves};
 use scim_shelf::{Shelf, ShelfFault};

@@ -17,11 +17,12 @@ use std::alloc::Global;
 
 /// Returns the page of the client's query over the client's view of the resources of a kind (RFC 7644 section
 /// 3.4.2). If the query requires an id or a unique name, only the resource with that id or name and the
-/// groups that list it are read. Otherwise, if the query requires a text at an indexed leaf, only the resources
-/// of the kind that have this text are searched, and else all resources of the kind. If the query has no filter
-/// and no sort key, and the client sees all resources of the kind, only the items of the page are read.
+/// groups that list it are read. Otherwise, if each match must have one of some texts at indexed leaves,
+/// only the resources of the kind that have one of these texts are searched, and else all resources of the kind.
+/// If the query has no filter and no sort key, and the client sees all resources of the kind, only the items of
+/// the page are read.
 ///
-/// Fails with the errors of the shelf.
+/// Fails with the errors of the shelf, and with `NoMemory`.
 pub fn page_of_query<S: Shelf>(
     alloc: Global,
     viewer: &Viewer<'_>,
@@ -39,6 +40,6 @@ pub fn page_of_query<S: Shelf>(
     }
     match needed_name(alloc, kind, query)? {
         Some(name) => page_named(alloc, viewer, shelf, kind, &name, query),
-        None => page_of_walk(alloc, viewer, shelf, &Walk::of(kind, query), query),
+        None => page_of_walk(alloc, viewer, shelf, &Walk::of(alloc, kind, query)?, query),
     }
 }

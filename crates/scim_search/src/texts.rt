@@ -1,45 +1,47 @@
-//! Texts that a query requires at an indexed leaf, by which the possible matches are found.
-ghost use Rattle.std.specs.Prelude.{◌≡◌};
-ghost use Rattle.scim_schema.specs.Characteristics.{is_case_exact};
-ghost use Rattle.scim_filter.specs.Relation.{cased};
+//! Texts that a query requires at indexed leaves, by which the possible matches are found.
+ghost use Rattle.std.specs.Prelude.{IfOk};
 ghost use Rattle.scim_search.specs.Lookups.{OnlyThose};
-ghost use Rattle.scim_search.specs.Walks.{is_walked};
+ghost use Rattle.scim_search.specs.Walks.{AreCompared, is_walked};
 
-use scim_filter_grammar::StringLiteral;
+use scim_filter_texts::{NeededText, compared_text};
 use scim_query::Query;
-use scim_schema::{Kind, Leaf, indexed_leaves, is_case_exact};
+use scim_schema::{Kind, indexed_leaves};
+use scim_shelf::LeafText;
+use scim_text::{NoMemory, push};
+use std::alloc::Global;
 
-/// A text at an indexed leaf, as comparisons use it: case-folded unless the leaf is caseExact.
-#[derive(Clone, Copy)]
-pub(crate) struct IndexedText<'a> {
-    pub(crate) leaf: Leaf,
-    pub(crate) text: &'a str,
+/// Returns the texts as comparisons at their leaves use them, in the same order.
+fn compared_texts<'a>(
+    alloc: Global,
+    needed: &[NeededText<'a>],
+) -> Result<Vec<LeafText<'a>>, NoMemory>
+    ensures { IfOk result (λ texts. AreCompared needed.now texts.items) }
+{
+    let mut texts = Vec::new(alloc);
+    for own in needed {
+        let text = compared_text(own.leaf, own.text);
+        push(
+            &mut texts,
+            LeafText {
+                leaf: own.leaf,
+                text,
+            },
+        )?;
+    }
+    Ok(texts)
 }
 
-/// Returns the text as comparisons at the leaf use it: case-folded unless the leaf is caseExact (RFC 7643
-/// section 2.2).
-pub(crate) fn compared_text(leaf: Leaf, text: &StringLiteral) -> &str
-    ensures { result.now ≡ cased (is_case_exact leaf) text.now }
+/// Returns texts of which every match of the kind must have one, each at an indexed leaf;
+/// `None` if the query requires no such texts.
+pub(crate) fn searched_texts(
+    alloc: Global,
+    kind: Kind,
+    query: &Query,
+) -> Result<Option<Vec<LeafText<'_>>>, NoMemory>
+    ensures { IfOk result (λ texts. OnlyThose kind query.now.filter (is_walked texts)) }
 {
-    if is_case_exact(leaf) {
-        text.as_str()
-    } else {
-        text.folded()
+    match query.needed_texts(alloc, indexed_leaves(kind))? {
+        Some(needed) => Ok(Some(compared_texts(alloc, needed.as_slice())?)),
+        None => Ok(None),
     }
-}
-
-/// Returns a text that every match of the kind must have at an indexed leaf; `None` if the query requires no
-/// such text.
-pub(crate) fn needed_indexed_text(kind: Kind, query: &Query) -> Option<IndexedText<'_>>
-    ensures { OnlyThose kind query.now.filter (is_walked result) }
-{
-    for leaf in indexed_leaves(kind) {
-        if let Some(text) = query.needed_text(*leaf) {
-            return Some(IndexedText {
-                leaf: *leaf,
-                text: compared_text(*leaf, text),
-            });
-        }
-    }
-    None
 }

@@ -146,7 +146,7 @@ pub(crate) struct SearchVisitor<'a> {
     cached: PatternCache<'a>,
 }
 
-/// The result of a search over all resources of a kind.
+/// The result of a search over the resources that it reads: all of a kind, or those that have one of some texts.
 #[derive(Drop)]
 pub(crate) struct Found<'a> {
     pub(crate) page: Page,

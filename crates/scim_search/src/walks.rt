@@ -1,4 +1,4 @@
-//! Searches that read all resources of a kind, or all that have a text at an indexed leaf.
+//! Searches that read all resources of a kind, or all that have one of some texts.
 ghost use Rattle.std.specs.Prelude.{◌≡◌, false, ℕ, List, [], IfOk, OnOk};
 ghost use Rattle.std.specs.List.{FoldsTo};
 ghost use Rattle.scim_schema.specs.declared.Kind.{Kind};
@@ -19,37 +19,36 @@ ghost use Rattle.scim_search.specs.Visits.{TakesResource};
 ghost use Rattle.scim_search.specs.Walks as spec;
 
 use crate::read_patterns::ReadPatterns;
-use crate::texts::{IndexedText, needed_indexed_text};
+use crate::texts::searched_texts;
 use crate::unfiltered::{is_of_all, page_of_window};
 use crate::view_builders::{ViewBuilder, ViewScope};
 use crate::visitors::{Found, GroupVisitor, SearchVisitor};
 use crate::whole_items::{ItemBuilder, whole_items};
 use scim_query::{Page, Pager, Query};
 use scim_schema::{Attribute, Kind};
-use scim_shelf::{Shelf, ShelfFault};
-use scim_text::Failed;
+use scim_shelf::{LeafText, Shelf, ShelfFault};
+use scim_text::{Failed, NoMemory};
 use scim_view::{GroupIndex, Viewer};
 use std::alloc::Global;
 
-/// The resources that a search reads: those of the kind or, if there is a text, those of the kind that have
-/// this text.
-#[derive(Clone, Copy)]
+/// The resources that a search reads: those of the kind or, if there are texts, those of the kind that have one of
+/// them at its leaf.
+#[derive(Drop)]
 pub(crate) struct Walk<'a> {
     kind: Kind,
-    text: Option<IndexedText<'a>>,
+    texts: Option<Vec<LeafText<'a>>>,
 }
 
 impl<'a> Walk<'a> {
     /// Returns the resources of the kind that a search with this query reads. No other resource of the kind can
     /// match.
-    pub(crate) fn of(kind: Kind, query: &'a Query) -> Walk<'a>
-        ensures kind { result.kind ≡ kind }
-        ensures only { OnlyThose kind query.now.filter (spec.is_walked result.text) }
+    pub(crate) fn of(alloc: Global, kind: Kind, query: &'a Query) -> Result<Walk<'a>, NoMemory>
+        ensures kind { IfOk result (λ walk. walk.kind ≡ kind) }
+        ensures only { IfOk result (λ walk.
+            OnlyThose kind query.now.filter (spec.is_walked walk.texts)) }
     {
-        Walk {
-            kind,
-            text: needed_indexed_text(kind, query),
-        }
+        let texts = searched_texts(alloc, kind, query)?;
+        Ok(Walk { kind, texts })
     }
 
     /// Passes the resources to the visitor, in order of id.
@@ -67,8 +66,8 @@ impl<'a> Walk<'a> {
             visitor.new) }
         ensures read { OnlyReads S.stands S.is_honest S.failures shelf.old shelf.new result }
     {
-        match self.text {
-            Some(known) => shelf.each_with(alloc, self.kind, known.leaf, known.text, visitor),
+        match &self.texts {
+            Some(texts) => shelf.each_of(alloc, self.kind, texts.as_slice(), visitor),
             None => shelf.each(alloc, self.kind, visitor),
         }
     }
@@ -202,7 +201,7 @@ pub(crate) fn page_of_walk<S: Shelf>(
     if !patterns.may_find(query) {
         return Ok(Pager::new(alloc, query).end()?);
     }
-    if walk.text.is_none() && is_of_all(&patterns, query) {
+    if walk.texts.is_none() && is_of_all(&patterns, query) {
         return page_of_window(alloc, viewer, &patterns, shelf, walk.kind, query);
     }
     let attributes = query.attributes(alloc)?;

@@ -10,14 +10,14 @@ use Rattle.scim_search.specs.Walks.{is_walked}
 use Rattle.scim_search.proofs.LookupLemmas.{page_of_passing}
 use Rattle.scim_search.proofs.pages.page_of_query.Goals as goal
 
-pub returns-in-None-clause-page : goal.returns-in-None-clause-page
-returns-in-None-clause-page g c =
+pub returns-in_ok-of-in-None-clause-page : goal.returns-in_ok-of-in-None-clause-page
+returns-in_ok-of-in-None-clause-page g c =
     IfOk-weaker c.page_of_walk.result _ _
     (λ page answer store stands honest base is.
     let viewer = viewer_of c.args.viewer.now in
     let groups = of_kind Group store.resources in
     let query = c.args.query.now in
-    let walk = c.of.result in
-    page_of_passing c.args.kind (is_walked walk.text) viewer groups base store query page is c.of.ensures.only
-    (subst (λ (k : Kind). IsPage (views viewer groups (filter (is_walked walk.text) (of_kind k store.resources))) query page) c.of.ensures.kind (answer store stands honest base is)))
+    let walk = c.in_ok-of-in-None.field-0 in
+    page_of_passing c.args.kind (is_walked walk.texts) viewer groups base store query page is c.in_ok-of-in-None.ensures.only
+    (subst (λ (k : Kind). IsPage (views viewer groups (filter (is_walked walk.texts) (of_kind k store.resources))) query page) c.in_ok-of-in-None.ensures.kind (answer store stands honest base is)))
     c.page_of_walk.ensures.page
