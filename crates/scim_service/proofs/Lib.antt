@@ -5,4 +5,5 @@ pub mod ReplaceLemmas
 pub mod PatchLemmas
 pub mod RunLemmas
 pub mod KeepLemmas
+pub mod OutcomeLemmas
 pub mod Facts

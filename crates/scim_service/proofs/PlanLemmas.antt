@@ -41,6 +41,11 @@ pub text_with : (v : Viewer) (gs hs : List Content) (wanted : Wanted) (c : Conte
 unfolding resource_text
 text_with v gs hs wanted c same = ap (λ (w : Content). compact_text (part_data (shown wanted w))) same
 
+-- nor with groups that aren't shown
+pub text_without : (v : Viewer) (gs hs : List Content) (wanted : Wanted) (c : Content) → shown wanted (with_groups v gs c) ≡ shown wanted (with_groups v hs c) → resource_text v gs wanted c ≡ resource_text v hs wanted c
+unfolding resource_text
+text_without v gs hs wanted c same = ap (λ (w : Content). compact_text (part_data w)) same
+
 pub got_is : (v : Viewer) (turn : Turn) (cs : List Content) (wanted : Wanted) (c : Content) (text : List ℕ) (row : AuditRow) (d : Decision)
     → text ≡ resource_text v (of_kind Group cs) wanted c → row ≡ allowed_row turn d.rule → d ≡ read_decision v c (simple Id) → d.allow ≡ true
     → record { reply = Shown text; change = Nothing; row = row } ≡ plan_for_seen v turn (get_plan v turn cs wanted) (Some c)

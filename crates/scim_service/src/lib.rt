@@ -6,6 +6,7 @@
 mod answering_turns;
 mod changed_resources;
 mod create_plans;
+mod get_plans;
 mod patch_plans;
 mod plans;
 mod put_plans;

@@ -14,6 +14,7 @@ ghost use Rattle.scim_shelf.specs.Stores.{AreOf};
 ghost use Rattle.scim_service.specs.Step as spec;
 
 use crate::create_plans::plan_create;
+use crate::get_plans::plan_get;
 use crate::patch_plans::plan_patch;
 use crate::put_plans::plan_replace;
 use crate::replies::Reply;
@@ -28,7 +29,7 @@ use scim_search::{groups_beside, page_of_query};
 use scim_shelf::{Change, Shelf, ShelfFault};
 use scim_text::{Failed, NoMemory};
 use scim_value::Resource;
-use scim_view::{ListingGroups, Viewer, Wanted, project, shows_id};
+use scim_view::{ListingGroups, Viewer, Wanted, shows_id};
 use std::alloc::Global;
 
 /// The reply to a request, the change to the store and the audit row.
@@ -217,14 +218,13 @@ pub(crate) fn resource_text(
         → AreListing (viewer_of viewer.now) resource.now.id gathered groups.now
         → text ≡ spec.resource_text (viewer_of viewer.now) gathered wanted.now resource.now) }
 {
-    let visible = viewer.with_groups_by(alloc, patterns, groups, resource)?;
-    let shown = project(alloc, visible, wanted)?;
+    let shown = viewer.shown_with_groups(alloc, patterns, groups, resource, wanted)?;
     Ok(Text::new(to_json(alloc, &shown)?))
 }
 
 /// Returns the JSON of a resource as the client sees it, projected to the wanted attributes. Reads the
-/// resource's groups from the shelf. `patterns` are those for reading the resource.
-fn seen_text<S: Shelf>(
+/// resource's groups from the shelf if the reply shows them. `patterns` are those for reading the resource.
+pub(crate) fn seen_text<S: Shelf>(
     alloc: Global,
     viewer: &Viewer<'_>,
     shelf: &mut S,
@@ -239,6 +239,11 @@ fn seen_text<S: Shelf>(
         (of_kind Kind.Group store.resources) wanted.now resource.now) }
     ensures read { OnlyReads S.stands S.is_honest S.failures shelf.old shelf.new result }
 {
+    if !wanted.shows_groups(resource) {
+        let none = ListingGroups::new(alloc, resource.id());
+        let text = resource_text(alloc, viewer, patterns, &none, resource, wanted)?;
+        return Ok(text);
+    }
     let groups = groups_beside(alloc, viewer, shelf, resource)?;
     Ok(resource_text(alloc, viewer, patterns, &groups, resource, wanted)?)
 }
@@ -266,56 +271,6 @@ pub(crate) fn kept_text<S: Shelf>(
     }
     let text = seen_text(alloc, viewer, shelf, patterns, resource, wanted)?;
     Ok(Some(text))
-}
-
-/// Returns the plan for a GET of `resource`. The plan is a refusal if the client doesn't see the resource.
-#[tactic(auto, unfolding(crate::specs::Step::get_plan))]
-fn plan_show<S: Shelf>(
-    alloc: Global,
-    viewer: &Viewer<'_>,
-    shelf: &mut S,
-    turn: &Turn,
-    wanted: &Wanted,
-    resource: &Resource,
-) -> Result<Plan, Failed<ShelfFault>>
-    ensures plan { IsReadFrom S.stands S.is_honest shelf.old shelf.new result (λ store plan. plan
-        ≡ spec.plan_for_seen (viewer_of viewer.now) turn.now
-        (spec.get_plan (viewer_of viewer.now) turn.now store.resources wanted.now)
-        (Some resource.now)) }
-    ensures read { OnlyReads S.stands S.is_honest S.failures shelf.old shelf.new result }
-{
-    let patterns = viewer.patterns(alloc, resource)?;
-    let seen = patterns.whole(Leaf::simple(Attribute::Id));
-    if !seen.allow {
-        return Ok(hidden(alloc, turn, seen)?);
-    }
-    let text = seen_text(alloc, viewer, shelf, &patterns, resource, wanted)?;
-    Ok(Plan {
-        reply: Reply::Shown(text),
-        change: Change::Nothing,
-        row: allowed(alloc, turn, seen.rule)?,
-    })
-}
-
-/// Returns the plan for a GET of the resource that the request names. The plan is a refusal if there is no
-/// such resource or the client doesn't see it.
-fn plan_get<S: Shelf>(
-    alloc: Global,
-    viewer: &Viewer<'_>,
-    shelf: &mut S,
-    turn: &Turn,
-    wanted: &Wanted,
-) -> Result<Plan, Failed<ShelfFault>>
-    ensures plan { IsReadFrom S.stands S.is_honest shelf.old shelf.new result (λ store plan. plan
-        ≡ spec.plan_for_seen (viewer_of viewer.now) turn.now
-        (spec.get_plan (viewer_of viewer.now) turn.now store.resources wanted.now)
-        (spec.sought_resource turn.now store.resources)) }
-    ensures read { OnlyReads S.stands S.is_honest S.failures shelf.old shelf.new result }
-{
-    let Some(resource) = found(alloc, shelf, turn)? else {
-        return Ok(absent(alloc, turn)?);
-    };
-    plan_show(alloc, viewer, shelf, turn, wanted, &resource)
 }
 
 /// Returns the plan for a DELETE of `resource`, which the client sees. The plan is a refusal if the policy

@@ -1,10 +1,10 @@
 use Rattle.std.proofs.Common.{◌∙◌, refl}
 use Rattle.std.specs.Prelude.{Some}
 use Rattle.scim_view.specs.View.{viewer_of}
-use Rattle.scim_service.specs.Step.{get_plan}
+use Rattle.scim_service.specs.Step.{allowed_row, get_plan}
 use Rattle.scim_service.proofs.PlanLemmas.{got_is, id_read}
 use Rattle.scim_service.proofs.ReplaceLemmas.{hidden_is}
-use Rattle.scim_service.proofs.plans.plan_show.Goals as goal
+use Rattle.scim_service.proofs.get_plans.plan_show.Goals as goal
 
 pub returns-then-not-seen-clause-plan : goal.returns-then-not-seen-clause-plan
 returns-then-not-seen-clause-plan g c store stands honest base is =
@@ -19,5 +19,6 @@ returns-clause-plan g c store stands honest base is =
     let viewer = viewer_of c.args.viewer.now in
     let own = c.args.resource.now in
     let decides = id_read c.in_ok-patterns.patterns viewer own c.simple.result c.whole-seen.result c.whole-seen.ensures c.simple.ensures c.in_ok-patterns.ensures in
-    got_is viewer c.args.turn.now store.resources c.args.wanted.now own c.in_ok-text.text c.in_ok-allowed.field-0 c.whole-seen.result
-    (c.in_ok-text.ensures.text store stands honest base is) c.in_ok-allowed.ensures decides c.if-not-seen.false
+    c.in_ok-told.ensures
+    ∙ got_is viewer c.args.turn.now store.resources c.args.wanted.now own c.in_ok-text.text (allowed_row c.args.turn.now c.whole-seen.result.rule) c.whole-seen.result
+    (c.in_ok-text.ensures.text store stands honest base is) refl decides c.if-not-seen.false
