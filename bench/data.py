@@ -143,17 +143,11 @@ def by_two_texts(server, number):
     return search("Users", f'externalId eq "HR-{first}" or emails.value eq "user{second}@example.com"')
 
 
-def by_group(server, number):
-    """A search for the 100 users of a group, of whom one is shown."""
-    group = id_of(FIRST_GROUP + number % (server.users // 100))
-    return request("GET", f"/Users?count=1&filter={quote(f'groups.value eq {chr(34)}{group}{chr(34)}')}")
-
-
 # What connectors ask in each cycle, by texts.
 TEXTS = [("externalId", by_external_id), ("emails.value", by_address), ("a value path of emails", by_work_address),
          ("the name of a group", by_group_name), ("the externalId of a group", by_group_external_id),
          ("members.value", by_member), ("a value path of members", by_member_in_brackets),
-         ("two names", by_two_names), ("an externalId or an address", by_two_texts), ("the group of users", by_group)]
+         ("two names", by_two_names), ("an externalId or an address", by_two_texts)]
 
 
 def retitle(server, number):
