@@ -1,6 +1,6 @@
 -- What an index of groups holds, as groups are added, and what it gives.
-use Rattle.std.proofs.Common.{◌≡◌, refl, sym, ◌∙◌, ap, subst, ℕ, ◌+◌, ◌-◌, ◌<◌, Bool, true, false, ◌||◌, cond, List, [], ◌∷◌, ◌++◌, append_assoc, map, filter, length, inl, inr, arith}
-use Rattle.std.specs.Prelude.{All, Option, None, Some, IsSome, nat_eq, vec_len, if◌then◌else◌}
+use Rattle.std.proofs.Common.{◌≡◌, refl, sym, ◌∙◌, ap, subst, ℕ, suc, ◌+◌, ◌-◌, ◌<◌, Bool, true, false, ◌||◌, cond, List, [], ◌∷◌, ◌++◌, append_assoc, map, filter, length, inl, inr, arith}
+use Rattle.std.specs.Prelude.{not, ◌==◌, All, Option, None, Some, IsSome, nat_eq, vec_len, if◌then◌else◌}
 use Rattle.std.specs.List.{list_any, slice_get}
 use Rattle.std.specs.Option.{option_eq, option_copied}
 use Rattle.std.specs.Global.{Vec}
@@ -125,6 +125,17 @@ given id xs (g ∷ gs) =
 -- an index that holds groups gives those that list an id
 pub held : (gs : List Content) (index : GroupIndex) → IsMadeOf gs index → Indexes gs index
 held gs index h id valid = rw (h.groups, h.positions id valid) (given id [] gs)
+
+-- an id has positions if a group lists it
+listed_from : (n : ℕ) (id : List ℕ) (gs : List Content) → not (length (positions_from n id gs) == 0) ≡ list_any (lists id) gs
+listed_from n id [] = refl
+listed_from n id (g ∷ gs) = elim (cases_Bool (lists id g)) [
+  | inl t ↦ rw t (ap not (ne_eqb (suc (length (positions_from (n + 1) id gs))) 0 (λ h. omega (arith, h))))
+  | inr f ↦ rw f (listed_from (n + 1) id gs)
+]
+
+pub listed : (gs : List Content) (index : GroupIndex) (id : List ℕ) → IsMadeOf gs index → IsId id → not (length (positions_of index id) == 0) ≡ list_any (lists id) gs
+listed gs index id made valid = ap (λ (ps : List ℕ). not (length ps == 0)) (made.positions id valid) ∙ listed_from 0 id gs
 
 -- an index with a group more
 pub added : (gs : List Content) (g : Content) (old new : GroupIndex) → IsMadeOf gs old → new.groups.items ≡ old.groups.items ++ kept_of g ∷ []

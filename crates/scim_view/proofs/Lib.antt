@@ -8,6 +8,7 @@ pub mod SeenRowsLemmas
 pub mod AttributeLemmas
 pub mod ShownPartLemmas
 pub mod UncoveredLemmas
+pub mod UnlistedLemmas
 pub mod NarrowedLemmas
 pub mod MemberLemmas
 pub mod IndexLemmas

@@ -1,10 +1,11 @@
 -- What a reply shows of what a client sees, made at once.
-use Rattle.std.proofs.Common.{◌≡◌, refl, sym, ◌∙◌, ap, subst, Bool, true, false, ◌&&◌, List, [], ◌∷◌, filter, map, inl, inr}
-use Rattle.std.specs.Prelude.{not, All}
+use Rattle.std.proofs.Common.{◌≡◌, refl, sym, ◌∙◌, ap, subst, Bool, true, false, true≢false, ◌&&◌, ◌||◌, List, [], ◌∷◌, ◌++◌, filter, map, inl, inr}
+use Rattle.std.specs.Prelude.{All}
 use Rattle.std.specs.List.{list_any}
 use Rattle.std.proofs.lemmas.Bool.{cases_Bool}
 use Rattle.std.proofs.lemmas.List.Elements.{All-head, All-tail, All-weaker, filter_passes}
-use Rattle.std.proofs.Math.Bool.{and-false}
+use Rattle.std.proofs.lemmas.List.Folds.{list_any-append}
+use Rattle.std.proofs.Math.Bool.{and-false, or-false}
 use denote.Enum.Bare.{sameb, same_true, true_same}
 use Rattle.scim_schema.specs.declared.Kind.{Kind}
 use Rattle.scim_schema.specs.declared.Kind.TheVariants.{User}
@@ -14,7 +15,7 @@ use Rattle.scim_schema.specs.declared.Attribute.TheVariants.{Groups}
 use Rattle.scim_schema.specs.contracts.Attribute.{the_type as the_attribute}
 use Rattle.scim_schema.specs.declared.Leaf.{Leaf}
 use Rattle.scim_schema.specs.declared.Unit.{Unit as AttributeUnit}
-use Rattle.scim_schema.specs.Table.{HasLeaf, attributes}
+use Rattle.scim_schema.specs.Table.{HasLeaf}
 use Rattle.scim_schema.specs.Units.{whole}
 use Rattle.scim_cell.specs.declared.rows.Field.{Field}
 use Rattle.scim_cell.specs.Content.{Content, IsPart}
@@ -28,7 +29,7 @@ use Rattle.scim_view.specs.declared.projection.Wanted.{Wanted}
 use Rattle.scim_view.specs.View.{Viewer, decision_in, may_be_seen, read_in}
 use Rattle.scim_view.specs.Groups.{memberships, rows_with, seen, visible_with, with_groups}
 use Rattle.scim_view.specs.Shown.{shows, shows_attribute, shown}
-use Rattle.scim_view.specs.code.ShownCells.{seen_and_shown, shown_except, unshown_attributes}
+use Rattle.scim_view.specs.code.ShownCells.{seen_and_shown, shown_except, AreUnshown}
 use Rattle.scim_view.proofs.GroupLemmas.{IsGroupsRow, made_rows, own_values, restricted-put_values}
 use Rattle.scim_view.proofs.AttributeLemmas.{hidden_leaf, no_fields, sound_among}
 use Rattle.scim_view.proofs.ViewLemmas.{AreSingle, single_decision}
@@ -39,23 +40,19 @@ left_full test rs = filter_passes has_fields (map (restricted_row test) rs)
 
 -- ---- attributes of which no leaf is shown
 
--- no leaf of these attributes is shown
-abbrev AreUnshown : Wanted → Kind → List Attribute → Type 0
-AreUnshown w kind unshown = (l : Leaf) → HasLeaf kind l → list_any (sameb the_attribute l.attribute) unshown ≡ true → shows w kind l ≡ false
+pub none_unshown : (w : Wanted) (kind : Kind) → AreUnshown w kind []
+none_unshown w kind l there own = absurd (true≢false (sym own))
 
-filtered : (w : Wanted) (kind : Kind) (l : Leaf) → HasLeaf kind l → (others : List Attribute)
-    → list_any (sameb the_attribute l.attribute) (filter (λ (a : Attribute). not (shows_attribute w kind a)) others) ≡ true → shows w kind l ≡ false
-filtered w kind l there [] own = absurd (cc)
-filtered w kind l there (a ∷ others) own = elim (cases_Bool (shows_attribute w kind a)) [
-  | inl t ↦ filtered w kind l there others (rw t at own)
-  | inr f ↦ elim (cases_Bool (sameb the_attribute l.attribute a)) [
-    | inl s ↦ hidden_leaf (shows w kind) kind a l there s f
-    | inr n ↦ filtered w kind l there others (rw (f, n) at own)
-  ]
+-- with one attribute more of which no leaf is shown
+pub unshown_more : (w : Wanted) (kind : Kind) (unshown : List Attribute) (a : Attribute) → AreUnshown w kind unshown → shows_attribute w kind a ≡ false → AreUnshown w kind (unshown ++ a ∷ [])
+unshown_more w kind unshown a none hidden l there own = elim (cases_Bool (list_any (sameb the_attribute l.attribute) unshown)) [
+  | inl t ↦ none l there t
+  | inr f ↦
+      let is : Attribute → Bool = sameb the_attribute l.attribute in
+      let some : (list_any is unshown || (is a || false)) ≡ true = sym (list_any-append is unshown (a ∷ [])) ∙ own in
+      let last : (is a || false) ≡ true = rw f at some in
+      hidden_leaf (shows w kind) kind a l there (sym (or-false (is a)) ∙ last) hidden
 ]
-
-are_unshown : (w : Wanted) (kind : Kind) → AreUnshown w kind (unshown_attributes w kind)
-are_unshown w kind l there own = filtered w kind l there (attributes kind) own
 
 -- a field of one isn't shown
 except_field : (unshown : List Attribute) (d : Row → Leaf → Decision) (kind : Kind) (w : Wanted) (r : Row) (f : Field) → AreUnshown w kind unshown → IsSoundField kind r.unit f
@@ -69,12 +66,11 @@ except_field unshown d kind w r f none sound = elim (cases_Bool (list_any (sameb
 ]
 
 -- so they may be left out at once
-pub except_unshown : (unshown : List Attribute) (d : Row → Leaf → Decision) (w : Wanted) (c : Content) → IsPart c → unshown ≡ unshown_attributes w c.kind
+pub except_unshown : (unshown : List Attribute) (d : Row → Leaf → Decision) (w : Wanted) (c : Content) → IsPart c → AreUnshown w c.kind unshown
     → restricted_part (shown_except unshown d c.kind w) c ≡ restricted_part (seen_and_shown d c.kind w) c
-except_unshown unshown d w c part is =
+except_unshown unshown d w c part none =
     let p = shown_except unshown d c.kind w in
     let q = seen_and_shown d c.kind w in
-    let none : AreUnshown w c.kind unshown = subst (AreUnshown w c.kind) (sym is) (are_unshown w c.kind) in
     ap (content c.kind c.id) (restricted_alike p q (rows c)
     (All-weaker (IsSoundRow c.kind) (AreAlike p q)
     (λ r sound. All-weaker (IsSoundField c.kind r.unit) (λ (f : Field). p r f.leaf ≡ q r f.leaf) (λ f own. except_field unshown d c.kind w r f none own) r.fields sound.own) (rows c) (sound_part c part).own))
@@ -86,7 +82,7 @@ single_shown d rules w c single = ap (λ (e : Row → Leaf → Decision). restri
 
 -- ---- what is shown of a resource with values of `groups`
 
--- the rows that are shown of what may be seen
+-- the visible rows that the projection keeps
 shown_rows : (w : Wanted) (d : Row → Leaf → Decision) (ms : List Row) (c : Content) → IsPart c → All IsGroupsRow ms
     → shown w (visible_with d ms c) ≡ content c.kind c.id (restricted (seen_and_shown d c.kind w) (rows_with ms c))
 unfolding shown visible_with
@@ -130,7 +126,7 @@ no_groups test (r ∷ rs) made fails =
     no_fields (λ f. test r f.leaf) r.fields (All-weaker (IsSoundField User r.unit) (λ f. test r f.leaf ≡ false) (λ f sound. fails r f.leaf sound.1 (ap (λ (u : AttributeUnit). u.attribute) (sound.0 ∙ own.0))) r.fields own.1.own) in
     rw none (no_groups test rs (All-tail IsGroupsRow r rs made) fails)
 
--- so what is shown has the same rows whatever they are
+-- so the shown rows are the same for any values of `groups`
 rows_alike : (w : Wanted) (d : Row → Leaf → Decision) (ms ns : List Row) (c : Content) → All IsGroupsRow ms → All IsGroupsRow ns → shows_attribute w c.kind Groups ≡ false
     → restricted (seen_and_shown d c.kind w) (rows_with ms c) ≡ restricted (seen_and_shown d c.kind w) (rows_with ns c)
 rows_alike w d ms ns c made others none =

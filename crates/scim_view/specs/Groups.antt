@@ -1,7 +1,9 @@
 -- The computed `groups` of a user (RFC 7643 section 4.1.2), and the client's view of resources with them.
-use Rattle.std.specs.Prelude.{ℕ, List, [], ◌∷◌, ◌++◌, map, filter, codes, Option, None, Some, if◌then◌else◌}
+use Rattle.std.specs.Prelude.{ℕ, Bool, List, [], ◌∷◌, ◌++◌, map, filter, codes, Option, None, Some, if◌then◌else◌}
+use Rattle.std.specs.List.{list_any}
 use denote.Enum.Bare.{sameb}
 use denote.Ref.{Bor}
+use Rattle.scim_schema.specs.contracts.Attribute.{the_type as the_attribute}
 use Rattle.scim_schema.specs.contracts.Kind.{the_type as the_kind}
 use Rattle.scim_schema.specs.declared.Kind.TheVariants.{User, Group}
 use Rattle.scim_schema.specs.declared.Leaf.{Leaf}
@@ -71,6 +73,10 @@ membership_at base g = membership_of base g.now.id g.now.display
 -- resource, sorted by the ids of the groups
 abbrev pub memberships : List ℕ → List Content → List ℕ → List Row
 memberships base gs id = map (membership base) (sorted_by id_cmp (filter (lists id) gs))
+
+-- whether one of the rows is a value of `groups`
+abbrev pub has_groups : List Row → Bool
+has_groups rs = list_any (λ (r : Row). sameb the_attribute r.unit.attribute Groups) rs
 
 -- the rows of a resource, with these values of `groups` if it is a user
 abbrev pub rows_with : List Row → Content → List Row

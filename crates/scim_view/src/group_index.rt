@@ -1,13 +1,16 @@
 //! An index of groups by the ids of their members.
-ghost use Rattle.std.specs.Prelude.{◌≡◌, ◌++◌, ◌∷◌, [], ℕ, List, cond, map, vec_len, IfOk, IfSome, OnOk, if◌then◌else◌};
+ghost use Rattle.std.specs.Prelude.{◌≡◌, ◌++◌, ◌∷◌, [], false, ℕ, List, cond, map, vec_len, IfOk, IfSome, OnOk, if◌then◌else◌};
 ghost use Rattle.std.specs.List.{list_any};
 ghost use Rattle.std.specs.Ordering.{nat_cmp, is_eq};
 ghost use Rattle.std.specs.Cmp.Lexicographic.{slice_cmp};
 ghost use Rattle.scim_schema.specs.declared.Leaf.{Leaf};
 ghost use Rattle.scim_cell.specs.Content.{Content};
 ghost use Rattle.scim_cell.specs.Ids.{IsId};
+ghost use Rattle.scim_cell.specs.Rows.{rows};
+ghost use Rattle.scim_value.specs.Members.{lists};
 ghost use Rattle.scim_policy.specs.PatternTable.{rules_in};
 ghost use Rattle.scim_view.specs.View.{Viewer as SpecViewer, decision_in, read_rules, viewer_of, visible_by};
+ghost use Rattle.scim_view.specs.Groups.{has_groups, seen, with_groups};
 ghost use Rattle.scim_view.specs.code.Index as spec;
 ghost use Rattle.scim_view.specs.Indexes.{IsIndexOf};
 ghost use Rattle.scim_view.specs.code.Index.{IsMadeOf};
@@ -94,6 +97,19 @@ impl GroupIndex {
             }
         }
         Ok(groups)
+    }
+
+    /// Whether the client sees the resource as a member of a group of the index. If not, the resource has no value of
+    /// `groups` in the client's view.
+    pub fn has_groups(&self, resource: &Resource) -> bool
+        ensures listed { (v : SpecViewer) (groups : List Content) → IsIndexOf v groups self.now
+            → result ≡ list_any (lists resource.now.id) (seen v groups) }
+        ensures none { result ≡ false → (v : SpecViewer) (groups : List Content)
+            → IsIndexOf v groups self.now
+            → has_groups (rows (with_groups v groups resource.now)) ≡ false }
+    {
+        let part = resource.part();
+        !self.positions_of(part.id()).is_empty()
     }
 
     /// Returns the positions in `groups` of the groups in which the client sees `id` as a member.

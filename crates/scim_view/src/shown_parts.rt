@@ -94,15 +94,19 @@ impl RowTest for SeenAndShownPlainly<'_> {
     }
 }
 
-/// Returns the attributes of the kind of which no leaf is shown.
+/// Returns attributes of the kind of which no leaf is shown: all if the client names attributes, and none if it wants
+/// the default attributes, which leave out few.
 fn unshown_attributes(
     alloc: Global,
     wanted: &Wanted,
     kind: Kind,
 ) -> Result<Vec<Attribute>, NoMemory>
-    ensures { IfOk result (λ v. v.items ≡ cells.unshown_attributes wanted.now kind) }
+    ensures { IfOk result (λ v. cells.AreUnshown wanted.now kind v.items) }
 {
     let mut unshown = Vec::new(alloc);
+    if matches!(wanted, Wanted::Default) {
+        return Ok(unshown);
+    }
     for attribute in attributes(kind) {
         if !wanted.shows_attribute(kind, *attribute) {
             push(&mut unshown, *attribute)?;

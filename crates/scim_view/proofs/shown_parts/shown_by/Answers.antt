@@ -1,11 +1,12 @@
-use Rattle.std.proofs.Common.{◌≡◌, ◌∙◌, ap}
+use Rattle.std.proofs.Common.{◌≡◌, ◌∙◌, sym, subst}
 use Rattle.std.proofs.lemmas.Result.{IfOk-weaker}
+use Rattle.scim_schema.specs.declared.Kind.{Kind}
 use Rattle.scim_cell.specs.Content.{Content}
 use Rattle.scim_cell.specs.Rows.{Row}
 use Rattle.scim_policy.specs.PatternTable.{last_decision, rules_in}
 use Rattle.scim_value.specs.Changes.{restricted_part}
 use Rattle.scim_view.specs.View.{decision_in}
-use Rattle.scim_view.specs.code.ShownCells.{seen_and_shown, shown_except, unshown_attributes}
+use Rattle.scim_view.specs.code.ShownCells.{seen_and_shown, shown_except, AreUnshown}
 use Rattle.scim_view.proofs.ShownPartLemmas.{except_unshown, single_shown}
 use Rattle.scim_view.proofs.shown_parts.shown_by.Goals as goal
 
@@ -16,7 +17,7 @@ returns-then-is_plain c =
     let own = c.args.resource.now in
     let w = c.args.wanted.now in
     let unshown = c.as_slice-unshown.result.now in
-    let none = c.as_slice-unshown.ensures.value ∙ c.in_ok-attributes.ensures ∙ ap (unshown_attributes w) c.kind-kind.ensures in
+    let none = subst (λ (k : Kind). AreUnshown w k unshown) c.kind-kind.ensures (subst (AreUnshown w c.kind-kind.result) (sym c.as_slice-unshown.ensures.value) c.in_ok-attributes.ensures) in
     IfOk-weaker c.restrict.result (λ (p : Content). p ≡ restricted_part (shown_except unshown (λ (r : Row). d) own.kind w) own)
     (λ (p : Content). p ≡ restricted_part (seen_and_shown (decision_in rules) own.kind w) own)
     (λ p e. e ∙ except_unshown unshown (λ (r : Row). d) w own c.part-part.ensures.valid.part none ∙ single_shown d rules w own (c.is_plain.ensures c.if-is_plain.true))
@@ -28,7 +29,7 @@ returns c =
     let own = c.args.resource.now in
     let w = c.args.wanted.now in
     let unshown = c.as_slice-unshown.result.now in
-    let none = c.as_slice-unshown.ensures.value ∙ c.in_ok-attributes.ensures ∙ ap (unshown_attributes w) c.kind-kind.ensures in
+    let none = subst (λ (k : Kind). AreUnshown w k unshown) c.kind-kind.ensures (subst (AreUnshown w c.kind-kind.result) (sym c.as_slice-unshown.ensures.value) c.in_ok-attributes.ensures) in
     IfOk-weaker c.restrict_by.result (λ (p : Content). p ≡ restricted_part (shown_except unshown (decision_in rules) own.kind w) own)
     (λ (p : Content). p ≡ restricted_part (seen_and_shown (decision_in rules) own.kind w) own)
     (λ p e. e ∙ except_unshown unshown (decision_in rules) w own c.part-part.ensures.valid.part none)
