@@ -1,3 +1,4 @@
+pub mod NeededGroupsLemmas
 pub mod OneOrderLemmas
 pub mod OrderLemmas
 pub mod PageLemmas

@@ -1,9 +1,10 @@
 -- A pager after one more part, and at its end.
-use Rattle.std.proofs.Common.{◌≡◌, ℕ, ◌+◌, ◌-◌, Bool, true, false, Option, Some, None, List, [], ◌∷◌, ◌++◌, map, take, drop, get_or, refl, sym, ap, ◌∙◌, is_lt, true≢false}
+use Rattle.std.proofs.Common.{◌≡◌, ℕ, ◌+◌, ◌-◌, Bool, true, false, Option, Some, None, List, [], ◌∷◌, ◌++◌, length, map, take, drop, subst, get_or, refl, sym, ap, ◌∙◌, is_lt, true≢false}
 use Rattle.std.specs.Option.{is_some}
 use Rattle.std.specs.Cmp.{IsStrictWeakOrder}
 use Rattle.std.specs.List.Sorted.{IsSorted, IsSortedBy}
-use Rattle.std.proofs.lemmas.List.{drop-take, take-map, drop-map, map-append}
+use Rattle.std.proofs.lemmas.List.{append-nil, drop-take, take-map, drop-map, map-append}
+use Rattle.std.proofs.lemmas.List.Elements.{filter-append}
 use Rattle.std.proofs.lemmas.List.Kept.{IsSortedBy-filter}
 use Rattle.std.proofs.lemmas.List.Sorted.{IsPermutation-refl, ranks_by}
 use Rattle.scim_schema.specs.declared.Leaf.{Leaf}
@@ -11,9 +12,10 @@ use Rattle.scim_cell.specs.Content.{Content}
 use Rattle.scim_cell.specs.Order.{id_cmp}
 use Rattle.scim_query.specs.declared.queries.Query.{Query}
 use Rattle.scim_query.specs.declared.kept_parts.KeptPart.{KeptPart}
+use Rattle.scim_query.specs.declared.pagers.Pager.{Pager}
 use Rattle.scim_query.specs.Order.{part_cmp, rank_of, rank_cmp}
 use Rattle.scim_query.specs.Pages.{is_match, matching, IsInOrder, slice_of}
-use Rattle.scim_query.specs.Pagers.{keyed, Holds, HoldsFirst, most_held, ComeInOrder}
+use Rattle.scim_query.specs.Pagers.{keyed, Holds, HoldsFirst, HasTaken, most_held, ComeInOrder}
 use Rattle.scim_query.specs.Arranged.{placed, before}
 use Rattle.scim_query.specs.code.Kept.{kept_rank, kept_cmp, comes_before}
 use Rattle.scim_query.proofs.OrderLemmas.{rank_cmp_total}
@@ -137,3 +139,15 @@ ended_in_order query found held h =
     let n = query.start - 1 in
     sym (drop-map part n held) ∙ ap (λ (ks : List KeptPart). drop n (map part ks)) h.first
     ∙ ap (drop n) (parts_keyed query.sort_by (take (n + query.count) h.sorted)) ∙ drop-take n query.count h.sorted
+
+-- a pager that has taken some parts has also taken them with a part that doesn't match
+pub taken_unmatched : (pager : Pager) (parts : List Content) (p : Content) → is_match pager.query.now.filter p ≡ false → HasTaken parts pager → HasTaken (parts ++ p ∷ []) pager
+taken_unmatched pager parts p fails was =
+    let query = pager.query.now in
+    let found = matching query.filter parts in
+    let none : found ++ matching query.filter (p ∷ []) ≡ found = rw fails (append-nil found) in
+    let same : found ≡ matching query.filter (parts ++ p ∷ []) = sym (filter-append (is_match query.filter) parts (p ∷ []) ∙ none) in
+    record {
+      total = was.total ∙ ap length same;
+      held = subst (λ (ps : List Content). Holds query.sort_by query ps pager.held.items) same was.held;
+    }

@@ -6,6 +6,7 @@ mod kept_parts;
 mod laws;
 mod matching_entries;
 mod named_attributes;
+mod needed_groups;
 mod needed_texts;
 mod pagers;
 mod possible_matches;

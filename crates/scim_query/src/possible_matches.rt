@@ -15,7 +15,7 @@ use scim_schema::{Attribute, Kind, is_multi_valued};
 use scim_view::shows_some;
 
 /// Whether a comparison is true for an attribute without a value.
-fn holds_of_none(operator: Operator, literal: &Literal) -> bool
+pub(crate) fn holds_of_none(operator: Operator, literal: &Literal) -> bool
     ensures { result ≡ compares Nothing operator literal.now [] }
 {
     match (operator, literal) {
