@@ -25,8 +25,8 @@ use std::alloc::Global;
 /// It represents the same store as the shelf below. Until the cache is filled, reads go to the shelf below;
 /// afterwards the cache serves them. A commit goes to the shelf below first and then updates the cache. If
 /// that update can't allocate, the commit remains, but the cache is dropped, and reads go to the shelf below
-/// until the cache is filled again. A commit that can't allocate a copy of its change fails before anything
-/// is changed. Audit rows are only in the shelf below.
+/// until the cache is filled again. A commit lends its change to the shelf below, and then moves it into the
+/// cache. Audit rows are only in the shelf below.
 ///
 /// The cache misses what others write to the shelf below: it is correct only while nobody else writes there.
 #[derive(Drop)]
@@ -239,10 +239,9 @@ impl<S: Shelf> Shelf for CachedShelf<S> {
         let Some(resources) = &self.resources else {
             return self.lower.commit(alloc, change, row);
         };
-        let copy = change.try_copy(alloc)?;
         let old = resources.old_of(&change);
-        self.lower.commit_over(alloc, old, change, row)?;
-        self.resources = follow(alloc, self.resources.take(), copy);
+        self.lower.commit_over(alloc, old, &change, &row)?;
+        self.resources = follow(alloc, self.resources.take(), change);
         Ok(())
     }
 

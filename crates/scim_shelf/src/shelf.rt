@@ -208,20 +208,25 @@ pub trait Shelf {
 
     /// Like `commit`, but the caller passes as `old` the stored user or group that has the id of the change,
     /// if any, so that the shelf needn't read it again. `old` is ignored for `Change::Nothing`.
+    ///
+    /// The default copies the change and the row, and calls `commit`. It fails with `NoMemory` if memory runs
+    /// out for the copies. A shelf that only reads them needs no copies.
     fn commit_over(
         &mut self,
         alloc: Global,
         old: Option<&Resource>,
-        change: Change,
-        row: AuditRow,
+        change: &Change,
+        row: &AuditRow,
     ) -> Result<(), Failed<ShelfFault>>
         ensures ok { OnOk result ((store : Store) → stands self.old store → AreKeyed store.resources
-            → CanKeep store change
-            → (is_honest self.new → IsOld store.resources change (option_copied old.entry))
-            → stands self.new (after change row store)) }
+            → CanKeep store change.now
+            → (is_honest self.new → IsOld store.resources change.now (option_copied old.entry))
+            → stands self.new (after change.now row.now store)) }
         ensures commits { Commits stands is_honest failures self.old self.new result }
     {
         let _old = old;
+        let change = change.try_copy(alloc)?;
+        let row = row.try_copy(alloc)?;
         self.commit(alloc, change, row)
     }
 

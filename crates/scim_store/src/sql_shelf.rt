@@ -505,26 +505,27 @@ impl<S: Alter> Shelf for SqlShelf<S> {
         &mut self,
         alloc: Global,
         old: Option<&Resource>,
-        change: Change,
-        row: AuditRow,
+        change: &Change,
+        row: &AuditRow,
     ) -> Result<(), Failed<ShelfFault>>
         ensures ok { OnOk result ((store : Store) → ⟦<SqlShelf<S> as Shelf>⟧.stands self.old store
-            → AreKeyed store.resources → CanKeep store change
+            → AreKeyed store.resources → CanKeep store change.now
             → (⟦<SqlShelf<S> as Shelf>⟧.is_honest self.new
-            → IsOld store.resources change (option_copied old.entry))
-            → ⟦<SqlShelf<S> as Shelf>⟧.stands self.new (after change row store)) }
+            → IsOld store.resources change.now (option_copied old.entry))
+            → ⟦<SqlShelf<S> as Shelf>⟧.stands self.new (after change.now row.now store)) }
         ensures commits { Commits ⟦<SqlShelf<S> as Shelf>⟧.stands
             ⟦<SqlShelf<S> as Shelf>⟧.is_honest ⟦<SqlShelf<S> as Shelf>⟧.failures
             self.old self.new result }
-        ensures disk { CommitsWhole (base_of self.old) change row
-            (MayMakeOver ⟦<SqlShelf<S> as Shelf>⟧.stands self.old (option_copied old.entry) change)
+        ensures disk { CommitsWhole (base_of self.old) change.now row.now
+            (MayMakeOver ⟦<SqlShelf<S> as Shelf>⟧.stands self.old (option_copied old.entry)
+            change.now)
             (state S.Store (connection_of self.old)) (state S.Store (connection_of self.new)) result }
     {
         if self.rows >= LAST_NUMBER {
             return Err(Failed::Because(ShelfFault::Full));
         }
         let (connection, base, number) = (&mut self.connection, self.base.as_str(), self.rows + 1);
-        let done = commit_over(connection, alloc, base, old, &change, &row, number);
+        let done = commit_over(connection, alloc, base, old, change, row, number);
         told_commit(&mut self.failures, &mut self.rows, done)
     }
 
