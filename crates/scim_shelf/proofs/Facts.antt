@@ -5,7 +5,7 @@ pub use Rattle.scim_shelf.proofs.StoreLemmas.{All-keep, All-without, keep_keyed,
 pub use Rattle.scim_shelf.proofs.LeftLemmas.{last_kept}
 pub use Rattle.scim_shelf.proofs.PlaceLemmas.{by_order, AreAbove, reversed}
 pub use Rattle.scim_shelf.proofs.NameLemmas.{by_bool, is_same_name-Decides, is_same_name-flips, found_unnamed, found_by_id, found_at}
-pub use Rattle.scim_shelf.proofs.ValueLemmas.{value_more, or_cond, or_false, beyond_shared, left_beyond}
+pub use Rattle.scim_shelf.proofs.ValueLemmas.{value_more, or_cond, or_false, left_beyond}
 pub use Rattle.scim_shelf.proofs.UnderLemmas.{exact_values}
 pub use Rattle.scim_shelf.proofs.PickLemmas.{filter_swap}
 pub use Rattle.scim_shelf.proofs.CountLemmas.{device_raises, counts_grow}

@@ -1,8 +1,12 @@
 -- The texts of one more value at a leaf.
-use Rattle.std.proofs.Common.{◌≡◌, refl, sym, ◌∙◌, ap, ℕ, ◌+◌, ◌<◌, Bool, true, false, ◌&&◌, ◌||◌, not, List, [], ◌∷◌, ◌++◌, length, take, get_or}
+use Rattle.std.proofs.Common.{◌≡◌, refl, sym, ◌∙◌, ap, ℕ, ◌+◌, ◌<◌, Bool, true, false, ◌&&◌, ◌||◌, not, List, [], ◌∷◌, ◌++◌, map, length, take, get_or}
 use Rattle.std.specs.Prelude.{nat_eq, Option, None, Some, String, string_bytes}
 use Rattle.std.specs.declared.alloc.Global.{Global}
-use Rattle.std.specs.Cmp.Lexicographic.{pointwise, nat_list_eq_equiv}
+use Rattle.std.specs.Ordering.{nat_cmp, is_eq}
+use Rattle.std.specs.Cmp.Lexicographic.{pointwise, slice_cmp, nat_list_eq_equiv}
+use Rattle.std.specs.List.{list_any}
+use Rattle.std.specs.BTreeMap.{is_at}
+use Rattle.std.proofs.lemmas.Map.Text.{is_eq-slice_cmp}
 use Rattle.std.proofs.lemmas.List.Folds.{list_any-append, list_any_more}
 use Rattle.scim_schema.specs.declared.Leaf.{Leaf}
 use Rattle.scim_schema.specs.Units.{is_same_leaf}
@@ -50,6 +54,25 @@ alike_found : (q : UniqueName) (leaf : Leaf) (text : String Global) (own : List 
 alike_found q leaf text own is =
     ap (λ (b : Bool). is_same_leaf leaf q.leaf && b)
     (ap (λ (t : List ℕ). pointwise nat_eq t (string_bytes q.text)) is ∙ nat_list_eq_equiv.symm (compared_text leaf own) (string_bytes q.text))
+
+and_false : (b : Bool) → false ≡ (b && false)
+and_false true = refl
+and_false false = refl
+
+both_at : (l a b : Bool) → ((l && a) || (l && b)) ≡ (l && (a || b))
+both_at true a b = refl
+both_at false a b = refl
+
+-- a text is among those at the leaf
+pub among_at : (leaf : Leaf) (q : UniqueName) (texts : List (String Global)) → is_among q (map (text_of leaf) texts)
+    ≡ (is_same_leaf leaf q.leaf && list_any (is_at (λ (text : String Global). slice_cmp nat_cmp (string_bytes q.text) (string_bytes text))) texts)
+among_at leaf q [] = and_false (is_same_leaf leaf q.leaf)
+among_at leaf q (text ∷ texts) =
+    let here = is_same_leaf leaf q.leaf in
+    let same : pointwise nat_eq (string_bytes text) (string_bytes q.text) ≡ is_eq (slice_cmp nat_cmp (string_bytes q.text) (string_bytes text)) =
+    nat_list_eq_equiv.symm (string_bytes text) (string_bytes q.text) ∙ sym (is_eq-slice_cmp (string_bytes q.text) (string_bytes text)) in
+    (λ i. (here && same i) || among_at leaf q texts i)
+    ∙ both_at here _ _
 
 module _ (leaf : Leaf) (values : List Row) (k : ℕ) (value : Row) (inside : k < length values) (is : value ≡ get_or values k value) where
   -- the texts of values with one more, whose text was found, if it has one

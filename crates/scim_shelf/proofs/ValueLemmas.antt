@@ -3,7 +3,10 @@ use Rattle.std.proofs.Common.{◌≡◌, refl, sym, ◌∙◌, ap, ℕ, ◌+◌,
 use Rattle.std.specs.Prelude.{Option, string_bytes}
 use Rattle.std.specs.Cmp.{decided}
 use Rattle.std.specs.List.{list_any}
-use Rattle.std.proofs.lemmas.List.{length-drop, take_all, take-append-drop}
+use Rattle.std.specs.BTreeSet.{BTreeSet, contains_by}
+use Rattle.std.specs.BTreeMap.{is_at}
+use Rattle.std.specs.declared.cmp.Ordering.{Ordering}
+use Rattle.std.proofs.lemmas.List.{take_all, take_rest, take-append-drop, drop_more, nil_from_length}
 use Rattle.std.proofs.lemmas.List.Folds.{list_any-append, list_any_more}
 use Rattle.scim_schema.specs.declared.Leaf.{Leaf}
 use Rattle.scim_schema.specs.IndexedLeaves.{indexed_leaves}
@@ -12,14 +15,11 @@ use Rattle.scim_schema.proofs.Facts.{is_same_leaf-Decides}
 use Rattle.scim_cell.specs.Content.{Content}
 use Rattle.scim_cell.specs.Rows.{Row, atom_in}
 use Rattle.scim_value.specs.Members.{is_text}
-use Rattle.scim_value.specs.Uniqueness.{Name}
 use Rattle.scim_value.specs.declared.uniqueness.UniqueName.{UniqueName}
 use Rattle.scim_shelf.specs.Members.{is_found, value_in, is_value_of}
 use Rattle.scim_shelf.specs.Stores.{is_compared, has_text, has_text_in}
-use Rattle.scim_shelf.specs.Owners.{is_alike}
 use Rattle.scim_shelf.specs.IndexedTexts.{is_indexed, is_under_at, is_under_at_in, is_under, is_under_in}
 use Rattle.scim_shelf.proofs.NameLemmas.{by_bool}
-use Rattle.scim_shelf.proofs.OwnerLemmas.{alike_named}
 
 -- the values of members with one more, of which the value was found, if it has one
 pub value_more : (v : List ℕ) (members : List Row) (k : ℕ) (member : Row) (found : Option (List ℕ)) → k < length members → member ≡ get_or members k member
@@ -45,22 +45,83 @@ or_shared true false c = refl
 or_shared false true c = refl
 or_shared false false c = refl
 
+-- the first values and the others have the texts of all
+pub in_parts : (leaf : Leaf) (t : List ℕ) (vs : List Row) (k : ℕ) → (has_text_in leaf t (take k vs) || has_text_in leaf t (drop k vs)) ≡ has_text_in leaf t vs
+in_parts leaf t vs k =
+    sym (list_any-append (λ (r : Row). is_compared leaf t (atom_in leaf r.fields)) (take k vs) (drop k vs)) ∙ ap (has_text_in leaf t) (take-append-drop k vs)
+
 -- where the first k of two lists of values have the same texts, what the others lack are texts of the values after k
 pub beyond_shared : (leaf : Leaf) (t : List ℕ) (vs others : List Row) (k : ℕ) → has_text_in leaf t (take k others) ≡ has_text_in leaf t (take k vs)
     → (has_text_in leaf t (take (length vs - k) (drop k vs)) || has_text_in leaf t others) ≡ (has_text_in leaf t vs || has_text_in leaf t others)
 beyond_shared leaf t vs others k same =
     let has = has_text_in leaf t in
-    let test = λ (r : Row). is_compared leaf t (atom_in leaf r.fields) in
-    let rest : take (length vs - k) (drop k vs) ≡ drop k vs =
-    take_all (length vs - k) (drop k vs) (omega (arith, length-drop k vs)) in
-    let mine : (has (take k vs) || has (drop k vs)) ≡ has vs =
-    sym (list_any-append test (take k vs) (drop k vs)) ∙ ap has (take-append-drop k vs) in
     let theirs : (has (take k vs) || has (drop k others)) ≡ has others =
-    ap (λ (b : Bool). b || has (drop k others)) (sym same)
-    ∙ sym (list_any-append test (take k others) (drop k others)) ∙ ap has (take-append-drop k others) in
-    (λ i. has (rest i) || sym theirs i)
+    ap (λ (b : Bool). b || has (drop k others)) (sym same) ∙ in_parts leaf t others k in
+    (λ i. has (take_rest vs k i) || sym theirs i)
     ∙ or_shared (has (take k vs)) (has (drop k vs)) (has (drop k others))
-    ∙ (λ i. mine i || theirs i)
+    ∙ (λ i. in_parts leaf t vs k i || theirs i)
+
+or_shared_after : (a b c : Bool) → (a || (c || b)) ≡ ((a || b) || (c || b))
+or_shared_after true b c = refl
+or_shared_after false true true = refl
+or_shared_after false true false = refl
+or_shared_after false false true = refl
+or_shared_after false false false = refl
+
+-- where two lists of values end with the same texts, what the others lack are texts of the values before
+pub before_shared : (leaf : Leaf) (t : List ℕ) (vs others : List Row) (m n : ℕ) → has_text_in leaf t (drop n others) ≡ has_text_in leaf t (drop m vs)
+    → (has_text_in leaf t (take m vs) || has_text_in leaf t others) ≡ (has_text_in leaf t vs || has_text_in leaf t others)
+before_shared leaf t vs others m n same =
+    let has = has_text_in leaf t in
+    let theirs : (has (take n others) || has (drop m vs)) ≡ has others =
+    ap (λ (b : Bool). has (take n others) || b) (sym same) ∙ in_parts leaf t others n in
+    (λ i. has (take m vs) || sym theirs i)
+    ∙ or_shared_after (has (take m vs)) (has (drop m vs)) (has (take n others))
+    ∙ (λ i. in_parts leaf t vs m i || theirs i)
+
+-- what some lack, more lack
+pub widened : (a b r p : Bool) → (a || r) ≡ (b || r) → (a || (p || r)) ≡ (b || (p || r))
+widened true true r p h = refl
+widened true false r true h = refl
+widened true false r false h = h
+widened false true r true h = refl
+widened false true r false h = h
+widened false false r p h = refl
+
+-- the last values with one more before them
+pub text_before : (leaf : Leaf) (t : List ℕ) (vs : List Row) (s : ℕ) (value : Row) → s < length vs → value ≡ get_or vs (length vs - 1 - s) value
+    → has_text_in leaf t (drop (length vs - (s + 1)) vs) ≡ (is_compared leaf t (atom_in leaf value.fields) || has_text_in leaf t (drop (length vs - s) vs))
+text_before leaf t vs s value inside is =
+    let at : length vs - 1 - s ≡ length vs - (s + 1) = omega (arith, inside) in
+    let next : (length vs - (s + 1)) + 1 ≡ length vs - s = omega (arith, inside) in
+    let first : get_or vs (length vs - (s + 1)) value ≡ value = ap (λ (n : ℕ). get_or vs n value) (sym at) ∙ sym is in
+    ap (has_text_in leaf t) (drop_more vs (length vs - (s + 1)) value (omega (arith, inside)))
+    ∙ (λ i. is_compared leaf t (atom_in leaf (first i).fields) || has_text_in leaf t (drop (next i) vs))
+
+pub cond_not : (test b : Bool) → cond test false b ≡ (b && not test)
+cond_not true true = refl
+cond_not true false = refl
+cond_not false true = refl
+cond_not false false = refl
+
+pub not_either : (o h f : Bool) → ((o && not h) && not f) ≡ (o && not (h || f))
+not_either true true f = refl
+not_either true false f = refl
+not_either false h f = refl
+
+none_left : (o h r : Bool) → false ≡ (o && not h) → false ≡ (o && not (h || r))
+none_left true true r none = refl
+none_left true false r none = cc
+none_left false h r none = refl
+
+-- an empty set without the first k of some values is without all of them
+pub emptied : {X K : Type 0} (test : X → Bool) (xs : List X) (k : ℕ) (compare : K → Ordering) (left : BTreeSet K) (was : Bool) → length left.keys ≡ 0
+    → contains_by compare left ≡ (was && not (list_any test (take k xs))) → contains_by compare left ≡ (was && not (list_any test xs))
+emptied test xs k compare left was empty so_far =
+    let none : contains_by compare left ≡ false = ap (list_any (is_at compare)) (nil_from_length left.keys empty) in
+    none
+    ∙ none_left was (list_any test (take k xs)) (list_any test (drop k xs)) (sym none ∙ so_far)
+    ∙ ap (λ (b : Bool). was && not b) (sym (list_any-append test (take k xs) (drop k xs)) ∙ ap (list_any test) (take-append-drop k xs))
 
 pub left_beyond : (a b n : Bool) → (a || n) ≡ (b || n) → (a && not n) ≡ (b && not n)
 left_beyond true true n h = refl
@@ -86,10 +147,6 @@ beyond_at leaf q values c found h =
     sym (at_leaf leaf q.leaf (λ (l : Leaf). has && not (is_under_at_in l t found)))
     ∙ ap (λ (b : Bool). is_same_leaf leaf q.leaf && b) (left_beyond has (is_under_at leaf t c) (is_under_at_in leaf t found) h)
     ∙ at_leaf leaf q.leaf (λ (l : Leaf). is_under_at l t c && not (is_under_at_in l t found))
-
--- a resource is indexed under both of two texts that are alike, or under neither
-pub under_alike : (n q : UniqueName) (c : Content) → is_alike n q ≡ true → is_under n c ≡ is_under q c
-under_alike n q c alike = ap (λ (m : Name). is_under_at m.leaf m.text c) (alike_named n q alike)
 
 either : (a b x : Bool) → ((a && x) || (b && x)) ≡ ((a || b) && x)
 either true true true = refl

@@ -216,9 +216,9 @@ impl Collection {
         Ok(come)
     }
 
-    /// Returns the indexed values of `new` at the leaf after the prefix that `new` shares with the stored resource
-    /// of the same id. The texts in that prefix are already indexed. Returns all indexed values if there is no
-    /// stored resource.
+    /// Returns the indexed values of `new` at the leaf between the prefix and the suffix that `new` shares with the
+    /// stored resource of the same id. The texts in these are already indexed. Returns all indexed values if there
+    /// is no stored resource.
     fn values_to_note<'a>(&self, leaf: Leaf, new: &'a Resource) -> &'a [Row]
         ensures { (cs : List Content) → IsCollection cs self.now → (t : List ℕ)
             → (has_text_in leaf t result.now || is_under_at_in leaf t (find (has_id new.now.id) cs))

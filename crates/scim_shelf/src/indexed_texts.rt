@@ -1,9 +1,8 @@
 //! The texts under which a resource is indexed.
-ghost use Rattle.std.specs.Prelude.{◌≡◌, ◌&&◌, ◌||◌, not, nat_eq, ℕ, ◌≤◌, List, true, length, take, string_bytes, IfOk, OnOk};
+ghost use Rattle.std.specs.Prelude.{◌≡◌, ◌&&◌, ◌||◌, not, nat_eq, ℕ, ◌≤◌, ◌-◌, List, true, length, take, drop, Some, string_bytes, IfOk, OnOk};
 ghost use Rattle.std.specs.Option.{option_copied};
-ghost use Rattle.std.specs.Ordering.{nat_cmp};
-ghost use Rattle.std.specs.Cmp.Lexicographic.{slice_cmp, pointwise};
-ghost use Rattle.std.specs.BTreeSet.{contains_by};
+ghost use Rattle.std.specs.Cmp.Lexicographic.{pointwise};
+ghost use Rattle.std.specs.BTreeSet.{contains_text};
 ghost use Rattle.scim_schema.specs.Units.{is_same_leaf};
 ghost use Rattle.scim_cell.specs.Rows.{atom_in};
 ghost use Rattle.scim_value.specs.declared.uniqueness.UniqueName.{UniqueName as SpecName};
@@ -86,7 +85,7 @@ fn has_text(leaf: Leaf, text: &str, value: &Row) -> bool
 }
 
 /// Returns the length of the longest common prefix of two lists of values, compared by their texts at the leaf.
-pub fn shared_values(leaf: Leaf, some: &[Row], others: &[Row]) -> usize
+fn shared_values(leaf: Leaf, some: &[Row], others: &[Row]) -> usize
     ensures inside { result ≤ length some.now × result ≤ length others.now }
     ensures same { (t : List ℕ) → has_text_in leaf t (take result some.now)
         ≡ has_text_in leaf t (take result others.now) }
@@ -101,22 +100,56 @@ pub fn shared_values(leaf: Leaf, some: &[Row], others: &[Row]) -> usize
     shared
 }
 
-/// Returns the indexed values of `resource` after the prefix that it shares with `other`. Only these can have
-/// texts that `other` doesn't have. They are few if a long list grew or shrank at its end.
+/// Returns the length of the longest common suffix of two lists of values, compared by their texts at the leaf.
+fn shared_at_end(leaf: Leaf, some: &[Row], others: &[Row]) -> usize
+    ensures inside { result ≤ length some.now × result ≤ length others.now }
+    ensures same { (t : List ℕ) → has_text_in leaf t (drop (length some.now - result) some.now)
+        ≡ has_text_in leaf t (drop (length others.now - result) others.now) }
+{
+    let mut shared = 0;
+    while shared < some.len()
+        && shared < others.len()
+        && has_same_text(
+            leaf,
+            &some[some.len() - 1 - shared],
+            &others[others.len() - 1 - shared],
+        )
+    {
+        shared += 1;
+    }
+    shared
+}
+
+/// Returns the values between the prefix and the suffix that `values` shares with `others`. Only these can have
+/// texts at the leaf that `others` doesn't have. They are few if one list is the other with a few values added,
+/// removed or replaced in one place.
+pub fn unshared_values<'a>(leaf: Leaf, others: &[Row], values: &'a [Row]) -> &'a [Row]
+    ensures { (t : List ℕ) → (has_text_in leaf t result.now || has_text_in leaf t others.now)
+        ≡ (has_text_in leaf t values.now || has_text_in leaf t others.now) }
+{
+    let first = shared_values(leaf, others, values);
+    let rest = &values[first..];
+    let last = shared_at_end(leaf, &others[first..], rest);
+    &rest[..rest.len() - last]
+}
+
+/// Returns the indexed values of `resource` between the prefix and the suffix that it shares with `other`. Only
+/// these can have texts that `other` doesn't have.
 pub(crate) fn values_beyond<'a>(leaf: Leaf, other: &Resource, resource: &'a Resource) -> &'a [Row]
     ensures { (t : List ℕ) → (has_text_in leaf t result.now || is_under_at leaf t other.now)
         ≡ (is_under_at leaf t resource.now || is_under_at leaf t other.now) }
 {
-    let values = indexed_values(leaf, resource);
-    let shared = shared_values(leaf, indexed_values(leaf, other), values);
-    &values[shared..]
+    unshared_values(
+        leaf,
+        indexed_values(leaf, other),
+        indexed_values(leaf, resource),
+    )
 }
 
 /// Returns the texts of the values at the leaf, each once, as comparisons use them.
 fn texts_of(alloc: Global, leaf: Leaf, values: &[Row]) -> Result<BTreeSet<String>, NoMemory>
     ensures { IfOk result (λ texts. (t : List ℕ)
-        → contains_by (λ text. slice_cmp nat_cmp t (string_bytes text)) texts
-        ≡ has_text_in leaf t values.now) }
+        → contains_text texts t ≡ has_text_in leaf t values.now) }
 {
     let mut texts = BTreeSet::new(alloc);
     for value in values {
@@ -127,7 +160,63 @@ fn texts_of(alloc: Global, leaf: Leaf, values: &[Row]) -> Result<BTreeSet<String
     Ok(texts)
 }
 
-/// Appends to `gone` the texts of these values at the leaf, without those under which `new` is indexed.
+/// Removes from the set the text that comparisons at the leaf use for this text.
+fn remove_text(
+    alloc: Global,
+    leaf: Leaf,
+    text: &str,
+    texts: &mut BTreeSet<String>,
+) -> Result<(), NoMemory>
+    ensures { OnOk result ((t : List ℕ) → contains_text texts.new t
+        ≡ (contains_text texts.old t && not (is_found leaf t (Some text.now)))) }
+{
+    if is_case_exact(leaf) {
+        texts.remove(text);
+    } else {
+        texts.remove(fold(alloc, text)?.as_str());
+    }
+    Ok(())
+}
+
+/// Removes from the set the texts of these values at the leaf. Stops as soon as the set is empty.
+fn remove_texts(
+    alloc: Global,
+    leaf: Leaf,
+    values: &[Row],
+    texts: &mut BTreeSet<String>,
+) -> Result<(), NoMemory>
+    ensures { OnOk result ((t : List ℕ) → contains_text texts.new t
+        ≡ (contains_text texts.old t && not (has_text_in leaf t values.now))) }
+{
+    for value in values {
+        if texts.is_empty() {
+            return Ok(());
+        }
+        if let Some(text) = text_at(leaf, value) {
+            remove_text(alloc, leaf, text, texts)?;
+        }
+    }
+    Ok(())
+}
+
+/// Appends the texts of the set, which are at the leaf, to `names`.
+fn push_all(
+    leaf: Leaf,
+    texts: BTreeSet<String>,
+    names: &mut Vec<UniqueName>,
+) -> Result<(), NoMemory>
+    ensures { OnOk result ((q : SpecName) → is_among q names.new.items
+        ≡ (is_among q names.old.items
+        || (is_same_leaf leaf q.leaf && contains_text texts (string_bytes q.text)))) }
+{
+    for text in texts {
+        push(names, UniqueName { leaf, text })?;
+    }
+    Ok(())
+}
+
+/// Appends to `gone` the texts of these values at the leaf, without those under which `new` is indexed. Makes a
+/// set of the texts of these values, and passes over the values of `new` once.
 fn push_missing(
     alloc: Global,
     leaf: Leaf,
@@ -139,20 +228,13 @@ fn push_missing(
         ≡ (is_among q gone.old.items || (is_same_leaf leaf q.leaf
         && (has_text_in leaf (string_bytes q.text) values.now && not (is_under q new.now))))) }
 {
-    let kept = texts_of(alloc, leaf, indexed_values(leaf, new))?;
-    for value in values {
-        if let Some(text) = text_at(leaf, value) {
-            let text = compared(alloc, leaf, text)?;
-            if !kept.contains(text.as_str()) {
-                push(gone, UniqueName { leaf, text })?;
-            }
-        }
-    }
-    Ok(())
+    let mut missing = texts_of(alloc, leaf, values)?;
+    remove_texts(alloc, leaf, indexed_values(leaf, new), &mut missing)?;
+    push_all(leaf, missing, gone)
 }
 
-/// Appends to `gone` the texts at the leaf under which `old` is indexed and `new` isn't. Allocates only if the
-/// values of `old` at the leaf differ from the first values of `new`.
+/// Appends to `gone` the texts at the leaf under which `old` is indexed and `new` isn't. Allocates only if `old`
+/// has values at the leaf beside those that begin or end both lists.
 fn push_beyond(
     alloc: Global,
     leaf: Leaf,

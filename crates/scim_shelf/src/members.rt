@@ -1,5 +1,5 @@
 //! The values that a group lists among its members (RFC 7643 section 4.2).
-ghost use Rattle.std.specs.Prelude.{◌≡◌, ℕ, List, IfOk};
+ghost use Rattle.std.specs.Prelude.{◌≡◌, ◌&&◌, not, ℕ, List, IfOk};
 ghost use Rattle.std.specs.Option.{option_copied};
 ghost use Rattle.scim_value.specs.Members.{is_text};
 ghost use Rattle.scim_shelf.specs.Members.{is_found, is_in, is_value_of, value_in};
@@ -31,4 +31,19 @@ pub fn member_values(alloc: Global, members: &[Row]) -> Result<BTreeSet<&str>, N
         }
     }
     Ok(values)
+}
+
+/// Removes the `value`s of the members from the set. Stops as soon as the set is empty.
+pub fn remove_member_values<'m>(members: &'m [Row], values: &mut BTreeSet<&'m str>)
+    ensures { (v : List ℕ) → is_in v values.new
+        ≡ (is_in v values.old && not (is_value_of v members.now)) }
+{
+    for member in members {
+        if values.is_empty() {
+            return;
+        }
+        if let Some(value) = value_of(member) {
+            values.remove(&value);
+        }
+    }
 }
