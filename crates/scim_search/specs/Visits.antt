@@ -8,6 +8,7 @@ use Rattle.scim_view.specs.View.{Viewer, viewer_of}
 use Rattle.scim_view.specs.Groups.{and_those}
 use Rattle.scim_view.specs.Indexes.{IsIndexOf}
 use Rattle.scim_view.specs.Listings.{AreListing}
+use Rattle.scim_query.specs.Needed.{NeedsGroups}
 use Rattle.scim_query.specs.Pagers.{HasTaken}
 use Rattle.scim_search.specs.declared.visitors.GroupVisitor.{GroupVisitor}
 use Rattle.scim_search.specs.declared.visitors.ListingVisitor.{ListingVisitor}
@@ -37,12 +38,17 @@ abbrev pub TakesListing : ListingVisitor → Content → ListingVisitor → Type
 TakesListing old c new = (v : Viewer) (cs : List Content) → find (is_at Group c.id) cs ≡ Some c → Tells v cs old
     → Tells v cs new × ((id : List ℕ) (gathered : List Content) → lists id c ≡ true → AreListing v id gathered old.groups → AreListing v id (gathered ++ c ∷ []) new.groups)
 
--- the visitor keeps its builder and its query, its pager takes the part of the resource if the viewer sees
--- the resource, and its cached patterns stay correct
+-- the visitor skips resources in no group only if its query needs a value of `groups`
+abbrev pub SkipsOnlyUnmatched : SearchVisitor → Type 0
+SkipsOnlyUnmatched visitor = visitor.needs_groups ≡ true → NeedsGroups visitor.pager.query.now.filter
+
+-- the visitor keeps its builder, its query and whether it skips resources in no group; its pager takes the part of
+-- the resource if the viewer sees the resource; and its cached patterns stay correct
 pub record TakesResource (old : SearchVisitor) (c : Content) (new : SearchVisitor) : Type 0 where
   pub builder : new.builder ≡ old.builder
   pub query : new.pager.query ≡ old.pager.query
-  pub taken : (groups parts : List Content) → IsViewBuilder groups old.builder → HasTaken parts old.pager
+  pub needs : new.needs_groups ≡ old.needs_groups
+  pub taken : (groups parts : List Content) → IsViewBuilder groups old.builder → SkipsOnlyUnmatched old → HasTaken parts old.pager
       → HasTaken (parts ++ and_those (part_of groups old.builder c) []) new.pager
   pub cached : (groups cs : List Content) (kind : Kind) → IsViewBuilder groups old.builder → find (is_at kind c.id) cs ≡ Some c
       → Recalls (viewer_of old.builder.viewer.now) kind cs old.cached → Recalls (viewer_of old.builder.viewer.now) kind cs new.cached

@@ -1,8 +1,9 @@
 //! Builds the part of each resource on which a search evaluates its query.
-ghost use Rattle.std.specs.Prelude.{◌≡◌, ◌++◌, [], List, IfOk, IfSome, OnOk};
+ghost use Rattle.std.specs.Prelude.{◌≡◌, ◌++◌, [], false, List, IfOk, IfSome, OnOk};
 ghost use Rattle.scim_cell.specs.Content.{Content};
+ghost use Rattle.scim_cell.specs.Rows.{rows};
 ghost use Rattle.scim_view.specs.View.{Viewer as SpecViewer, read_in, visible_attributes as seen_attributes, viewer_of};
-ghost use Rattle.scim_view.specs.Groups.{and_those};
+ghost use Rattle.scim_view.specs.Groups.{and_those, has_groups};
 ghost use Rattle.scim_query.specs.Pagers.{HasTaken, query_of};
 ghost use Rattle.scim_search.specs.ReadPatterns.{AreFor};
 ghost use Rattle.scim_search.specs.ViewBuilders as spec;
@@ -72,6 +73,18 @@ impl<'a> ViewBuilder<'a> {
             → AreFor (viewer_of self.now.viewer.now) resource.now patterns) }
     {
         self.patterns.on(alloc, self.viewer, resource)
+    }
+
+    /// Whether the part that is built of the resource may have a value of `groups`. Doesn't evaluate the policy.
+    pub(crate) fn may_have_groups(&self, resource: &Resource) -> bool
+        ensures { result ≡ false → (groups : List Content) → spec.IsViewBuilder groups self.now
+            → has_groups (rows (spec.made (viewer_of self.now.viewer.now) groups self.now.scope
+            resource.now)) ≡ false }
+    {
+        match self.scope {
+            ViewScope::Named(_) => true,
+            ViewScope::Whole(index) => index.has_groups(resource),
+        }
     }
 
     /// Builds the part of the resource and passes it to the pager, if `patterns` let the client see the

@@ -9,7 +9,7 @@ ghost use Rattle.scim_query.specs.Pagers.{HasTaken, ComeInOrder, query_of};
 ghost use Rattle.scim_search.specs.ReadPatterns.{ArePatterns};
 ghost use Rattle.scim_view.specs.Listings.{AreListing};
 ghost use Rattle.scim_search.specs.PatternCache.{Recalls};
-ghost use Rattle.scim_search.specs.Visits.{TakesGroup, TakesListing, TakesResource, Tells};
+ghost use Rattle.scim_search.specs.Visits.{SkipsOnlyUnmatched, TakesGroup, TakesListing, TakesResource, Tells};
 
 use crate::pattern_cache::PatternCache;
 use crate::read_patterns::ReadPatterns;
@@ -142,6 +142,8 @@ impl<'a> Visitor for ListingVisitor<'a> {
 pub(crate) struct SearchVisitor<'a> {
     builder: ViewBuilder<'a>,
     pager: Pager<'a>,
+    /// Whether only parts with a value of `groups` match, so that resources in no group are skipped.
+    needs_groups: bool,
     /// The cached patterns on resources that the pager holds or has held.
     cached: PatternCache<'a>,
 }
@@ -163,6 +165,7 @@ impl<'a> SearchVisitor<'a> {
     ) -> SearchVisitor<'a>
         ensures builder { result.builder ≡ builder.entry }
         ensures query { query_of result.pager ≡ query.entry }
+        ensures skips { SkipsOnlyUnmatched result }
         ensures taken { HasTaken [] result.pager }
         ensures cached { (v : SpecViewer) (kind : SpecKind) (cs : List Content)
             → Recalls v kind cs result.cached }
@@ -170,6 +173,7 @@ impl<'a> SearchVisitor<'a> {
         SearchVisitor {
             builder,
             pager: Pager::new(alloc, query),
+            needs_groups: query.needs_groups(),
             cached: PatternCache::new(alloc),
         }
     }
@@ -194,6 +198,9 @@ impl<'a> Visitor for SearchVisitor<'a> {
     ghost takes = { TakesResource };
 
     fn take(&mut self, alloc: Global, resource: &Resource) -> Result<(), NoMemory> {
+        if self.needs_groups && !self.builder.may_have_groups(resource) {
+            return Ok(());
+        }
         if let Some(patterns) = self.builder.on_all(resource) {
             self.builder
                 .show(alloc, patterns, resource, &mut self.pager)?;

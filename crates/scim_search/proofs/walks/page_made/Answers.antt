@@ -31,7 +31,7 @@ returns-clause-page g c store stands honest groups base is valid =
     let took = took_resources first those last (c.in_ok-show.ensures.answer store stands honest) in
     let taken : HasTaken parts last.pager =
     subst (λ (s : ViewBuilder). HasTaken (made_of_walk groups s walk store.resources) last.pager) fresh.builder
-    (took.taken groups [] (subst (IsViewBuilder groups) (sym fresh.builder) is) fresh.taken) in
+    (took.taken groups [] (subst (IsViewBuilder groups) (sym fresh.builder) is) fresh.skips fresh.taken) in
     let ascend = strict_sorted parts (made_ascends make viewer (made_id viewer groups builder.scope) those
     (IsStrictlySortedBy-filter id_cmp (is_walked walk.texts) (of_kind kind store.resources) (IsStrictlySortedBy-filter id_cmp (is_of kind) store.resources valid.keyed.ascending))) in
     let kept = took.cached groups store.resources kind (subst (IsViewBuilder groups) (sym fresh.builder) is) (walked_found base store valid walk) (fresh.cached (viewer_of first.builder.viewer.now) kind store.resources) in (
