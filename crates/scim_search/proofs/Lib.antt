@@ -3,6 +3,8 @@ pub mod Facts
 pub mod ListLemmas
 pub mod LookupLemmas
 pub mod NameLemmas
+pub mod ShownItemLemmas
+pub mod ShownPageLemmas
 pub mod SomeTextLemmas
 pub mod StoreViews
 pub mod TextLemmas

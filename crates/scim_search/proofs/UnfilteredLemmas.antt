@@ -24,7 +24,7 @@ use Rattle.scim_shelf.specs.Stores.{Store, IsStore, window}
 use Rattle.scim_search.specs.declared.unfiltered.IdVisitor.{IdVisitor}
 use Rattle.scim_search.specs.Unfiltered.{TakesId}
 use Rattle.scim_search.specs.declared.walks.Walk.{Walk}
-use Rattle.scim_search.specs.Walks.{SeenResource, AreWhole}
+use Rattle.scim_search.specs.ShownItems.{AreItems, SeenResource, item}
 use Rattle.scim_search.proofs.StoreViews.{made_ascends, made_views, strict_sorted}
 use Rattle.scim_search.proofs.WalkLemmas.{all_seen, all_walked}
 
@@ -71,10 +71,10 @@ module _ (v : Viewer) (kind : Kind) (query : Query) (base : List ℕ) (store : S
   each_seen : All (λ c. sees v c ≡ true) all
   each_seen k d lt = seen _ (same_true the_kind tt _ kind (filter_passes (is_of kind) store.resources k d lt))
 
-  -- the whole items of a window are the visible parts of the resources in the window
-  pub window_whole : (items whole : List Content) → ids items ≡ ids shown → AreWhole v kind store.resources items whole
-      → whole ≡ map (with_groups v groups) shown
-  window_whole items whole same are =
+  -- the items of a window are those for the resources in the window
+  pub window_items : (parts items : List Content) → ids parts ≡ ids shown → AreItems v query.wanted kind store.resources parts items
+      → items ≡ map (item v query.wanted groups) shown
+  window_items parts items same are =
       let walk : Walk = record { kind = kind; texts = None } in
       let found = all_seen v walk base store is in
       let part : List (SeenResource v kind store.resources) = take query.count (drop (query.start - 1) found.0) in
@@ -83,7 +83,7 @@ module _ (v : Viewer) (kind : Kind) (query : Query) (base : List ℕ) (store : S
       = sym (take-map (λ (x : SeenResource v kind store.resources). x.own) query.count (drop (query.start - 1) found.0))
       ∙ ap (take query.count) (sym (drop-map (λ (x : SeenResource v kind store.resources). x.own) (query.start - 1) found.0) ∙ ap (drop (query.start - 1)) own) in
       are part (same ∙ ap ids (sym those) ∙ map-map (λ (c : Content). c.id) (λ (x : SeenResource v kind store.resources). x.own) part)
-      ∙ sym (map-map (with_groups v groups) (λ (x : SeenResource v kind store.resources). x.own) part) ∙ ap (map (with_groups v groups)) those
+      ∙ sym (map-map (item v query.wanted groups) (λ (x : SeenResource v kind store.resources). x.own) part) ∙ ap (map (item v query.wanted groups)) those
 
   -- the page of a query without a filter or a sort key is a window of all resources
   pub window_page : (page : Page) → query.filter ≡ None → query.sort_by ≡ None → page.total ≡ length all → page.start ≡ first_position query.start

@@ -35,6 +35,7 @@ use Rattle.scim_schema.specs.Mutability.{is_write_only}
 use Rattle.scim_schema.specs.declared.Unit.{Unit as AttributeUnit}
 use Rattle.scim_schema.specs.contracts.Attribute.{the_type as the_attribute}
 use Rattle.scim_view.specs.declared.views.MayBeSeenPlainlyOf.{MayBeSeenPlainlyOf}
+use Rattle.scim_view.specs.declared.projection.Wanted.{Wanted}
 use Rattle.scim_view.specs.declared.viewers.Viewer.{Viewer as ViewerInCode}
 use Rattle.scim_view.specs.View.{Viewer, viewer_of, decision_in, read_in, sees, may_be_seen_of, visible_attributes}
 use Rattle.scim_view.specs.Groups.{and_those, memberships, visible_with, with_groups, view_with_groups, views, seen}
@@ -56,7 +57,8 @@ use Rattle.scim_search.specs.ReadPatterns.{ArePatterns, AreFor}
 use Rattle.std.proofs.lemmas.Option.{same_Some}
 use Rattle.scim_search.specs.ViewBuilders.{made_of_all, IsViewBuilder}
 use Rattle.scim_search.specs.declared.walks.Walk.{Walk}
-use Rattle.scim_search.specs.Walks.{SeenResource, is_walked, made_of_walk, walked}
+use Rattle.scim_search.specs.ShownItems.{SeenResource, item}
+use Rattle.scim_search.specs.Walks.{is_walked, made_of_walk, walked}
 use Rattle.scim_search.proofs.ApartLemmas.{none_at}
 use Rattle.scim_search.proofs.StoreViews.{parts_of, made_map, made_views}
 
@@ -172,7 +174,7 @@ module _ (v : Viewer) (walk : Walk) (gs : List Content) (query : Query) (base : 
   abbrev whole_of : SeenResource v walk.kind store.resources → Content
   whole_of x = with_groups v gs x.own
 
-  -- the list of what is made of each resource that the viewer sees
+  -- the parts that are built from the resources that the viewer sees, as a list over these resources
   made_seen : (make : Content → Content) → made_of_all make v cs ≡ map (λ x. make x.own) (all_seen v walk base store is).0
   made_seen make =
       let xs = all_seen v walk base store is in
@@ -230,29 +232,27 @@ pub none_shown : {X Y : Type 0} (f g : X → Y) (xs : List X) → map f xs ≡ [
 none_shown f g [] e = refl
 none_shown f g (x ∷ xs) e = cc
 
--- ---- parts that are pushed one by one
+-- ---- items that are pushed one by one
 
-module _ (v : Viewer) (kind : Kind) (cs gs : List Content) where
+module _ (v : Viewer) (wanted : Wanted) (kind : Kind) (cs gs : List Content) where
   abbrev own_ids : List (SeenResource v kind cs) → List (List ℕ)
-  own_ids shown = map (λ (x : SeenResource v kind cs). x.own.id) shown
+  own_ids found = map (λ (x : SeenResource v kind cs). x.own.id) found
 
-  abbrev whole : List (SeenResource v kind cs) → List Content
-  whole shown = map (λ (x : SeenResource v kind cs). with_groups v gs x.own) shown
+  abbrev own_items : List (SeenResource v kind cs) → List Content
+  own_items found = map (λ (x : SeenResource v kind cs). item v wanted gs x.own) found
 
-  -- the part of the first resource, then those of the others
-  pub pushed_more : (Told : Type 0) (item : Content) (rest : List Content) (shown : List (SeenResource v kind cs)) (found : Option Content) (old mid new : List Content)
-      → map (λ (p : Content). p.id) (item ∷ rest) ≡ own_ids shown → found ≡ find (is_at kind item.id) cs
-      → ((c : Content) → found ≡ Some c → find (is_at kind c.id) cs ≡ Some c → Told × (mid ≡ old ++ and_those (view_with_groups v gs c) []))
-      → (Told → (xs : List (SeenResource v kind cs)) → map (λ (p : Content). p.id) rest ≡ own_ids xs → new ≡ mid ++ whole xs)
-      → new ≡ old ++ whole shown
-  pushed_more Told item rest [] found old mid new ids is first later = cc
-  pushed_more Told item rest (x ∷ xs) found old mid new ids is first later =
-      let own : item.id ≡ x.own.id = cc in
+  -- the item for the first resource, then those for the others
+  pub pushed_more : (Told : Type 0) (part : Content) (rest : List Content) (found : List (SeenResource v kind cs)) (old mid new : List Content)
+      → map (λ (p : Content). p.id) (part ∷ rest) ≡ own_ids found
+      → ((x : SeenResource v kind cs) → x.own.id ≡ part.id → Told × (mid ≡ old ++ item v wanted gs x.own ∷ []))
+      → (Told → (xs : List (SeenResource v kind cs)) → map (λ (p : Content). p.id) rest ≡ own_ids xs → new ≡ mid ++ own_items xs)
+      → new ≡ old ++ own_items found
+  pushed_more Told part rest [] old mid new ids first later = cc
+  pushed_more Told part rest (x ∷ xs) old mid new ids first later =
+      let own : x.own.id ≡ part.id = cc in
       let others : map (λ (p : Content). p.id) rest ≡ own_ids xs = cc in
-      let sought : found ≡ Some x.own = is ∙ ap (λ (id : List ℕ). find (is_at kind id) cs) own ∙ x.found in
-      let told = first x.own sought x.found in
-      let one : mid ≡ old ++ with_groups v gs x.own ∷ [] = rw x.seen at told.1 in
-      later told.0 xs others ∙ ap (λ (ps : List Content). ps ++ whole xs) one ∙ append_assoc old (with_groups v gs x.own ∷ []) (whole xs)
+      let told = first x own in
+      later told.0 xs others ∙ ap (λ (ps : List Content). ps ++ own_items xs) told.1 ∙ append_assoc old (item v wanted gs x.own ∷ []) (own_items xs)
 
 -- ---- whether the viewer sees a resource, by the rules on its `id`
 

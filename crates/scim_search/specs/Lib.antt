@@ -2,6 +2,7 @@ pub mod PatternCache
 pub mod GroupsBeside
 pub mod Lookups
 pub mod ReadPatterns
+pub mod ShownItems
 pub mod ViewBuilders
 pub mod Visits
 pub mod Walks

@@ -1,25 +1,22 @@
 -- Searches over all resources of a kind, or over all that have one of some texts.
-use Rattle.std.specs.Prelude.{◌≡◌, ℕ, Bool, true, List, Option, None, Some, Vec, map, find, filter}
+use Rattle.std.specs.Prelude.{◌≡◌, ℕ, Bool, true, List, Option, None, Some, Vec, map, filter}
 use Rattle.std.specs.declared.alloc.Global.{Global}
 use Rattle.scim_schema.specs.declared.Leaf.{Leaf}
 use Rattle.scim_schema.specs.Characteristics.{is_case_exact}
 use Rattle.scim_schema.specs.declared.Kind.{Kind}
 use Rattle.scim_schema.specs.declared.Kind.TheVariants.{Group}
-use Rattle.scim_cell.specs.Content.{Content, IsPart}
+use Rattle.scim_cell.specs.Content.{Content}
 use Rattle.scim_cell.specs.Kinds.{of_kind}
 use Rattle.scim_filter.specs.Relation.{cased}
 use Rattle.scim_filter_texts.specs.declared.needs.NeededText.{NeededText}
 use Rattle.scim_view.specs.declared.group_index.GroupIndex.{GroupIndex}
-use Rattle.scim_view.specs.View.{Viewer, viewer_of, sees}
+use Rattle.scim_view.specs.View.{Viewer, viewer_of}
 use Rattle.scim_view.specs.Groups.{with_groups}
 use Rattle.scim_view.specs.Indexes.{IsIndexOf}
 use Rattle.scim_shelf.specs.declared.leaf_texts.LeafText.{LeafText}
-use Rattle.scim_shelf.specs.Stores.{has_some_text, is_at}
+use Rattle.scim_shelf.specs.Stores.{has_some_text}
 use Rattle.scim_search.specs.declared.view_builders.ViewBuilder.{ViewBuilder}
 use Rattle.scim_search.specs.declared.walks.Walk.{Walk}
-use Rattle.scim_search.specs.declared.whole_items.ItemBuilder.{ItemBuilder}
-use Rattle.scim_search.specs.PatternCache.{Recalls}
-use Rattle.scim_search.specs.ReadPatterns.{ArePatterns}
 use Rattle.scim_search.specs.ViewBuilders.{made, made_of_all}
 
 -- the texts are those of the list, as comparisons at their leaves use them
@@ -46,21 +43,3 @@ pub record IndexTells (v : Viewer) (kind : Kind) (cs : List Content) (index : Gr
 -- the parts that a builder builds, one for each resource of the walk that its viewer sees
 abbrev pub made_of_walk : List Content → ViewBuilder → Walk → List Content → List Content
 made_of_walk groups builder walk cs = made_of_all (made (viewer_of builder.viewer.now) groups builder.scope) (viewer_of builder.viewer.now) (walked walk cs)
-
--- the patterns of the builder and its cached patterns are those of the viewer's reading
-pub record IsItemBuilder (cs : List Content) (builder : ItemBuilder) : Type 0 where
-  pub patterns : ArePatterns (viewer_of builder.viewer.now) builder.patterns.now
-  pub cached : Recalls (viewer_of builder.viewer.now) builder.kind cs builder.cached.now
-
--- a resource of the kind that the viewer sees, and that a look-up of its id finds
-pub record SeenResource (v : Viewer) (kind : Kind) (cs : List Content) : Type 0 where
-  pub own : Content
-  pub part : IsPart own
-  pub is_kind : own.kind ≡ kind
-  pub seen : sees v own ≡ true
-  pub found : find (is_at kind own.id) cs ≡ Some own
-
--- `whole` has, for each id of the items, the viewer's view of the resource with this id and its groups
-abbrev pub AreWhole : Viewer → Kind → List Content → List Content → List Content → Type 0
-AreWhole v kind cs items whole = (found : List (SeenResource v kind cs)) → map (λ p. p.id) items ≡ map (λ x. x.own.id) found
-    → whole ≡ map (λ x. with_groups v (of_kind Group cs) x.own) found

@@ -1,6 +1,7 @@
 //! The groups of one resource, and the client's view of the resource with them.
 ghost use Rattle.std.specs.Prelude.{◌≡◌, ℕ, List, [], IfOk};
 ghost use Rattle.scim_schema.specs.declared.Kind.{Kind};
+ghost use Rattle.scim_cell.specs.Content.{Content};
 ghost use Rattle.scim_cell.specs.Kinds.{of_kind};
 ghost use Rattle.scim_view.specs.Groups.{view_with_groups};
 ghost use Rattle.scim_view.specs.Listings.{AreListing};
@@ -36,49 +37,53 @@ pub fn groups_beside<S: Shelf>(
         spec.TellGroups (viewer_of viewer.now) store.resources resource.now groups) }
     ensures read { OnlyReads S.stands S.is_honest S.failures shelf.old shelf.new result }
 {
-    let mut listing = ListingVisitor::new(alloc, viewer, resource.id())?;
-    gather_groups(alloc, &mut listing, shelf, resource)?;
+    let id = resource.id();
+    let mut listing = ListingVisitor::new(alloc, viewer, id)?;
+    gather_groups(alloc, &mut listing, shelf, resource.kind(), id)?;
     Ok(listing.end())
 }
 
-/// Clears the visitor, then gathers the groups that appear in the `groups` of the resource. Fails with the
-/// errors of the shelf.
-fn gather_groups<S: Shelf>(
+/// Clears the visitor, then gathers the groups that appear in the `groups` of the resource of the kind with the id.
+/// Fails with the errors of the shelf.
+pub(crate) fn gather_groups<S: Shelf>(
     alloc: Global,
     listing: &mut ListingVisitor<'_>,
     shelf: &mut S,
-    resource: &Resource,
+    kind: Kind,
+    id: Id,
 ) -> Result<(), Failed<ShelfFault>>
     ensures groups { IfOk result (Answers S.stands S.is_honest shelf.old shelf.new
-        (λ store _. (base : List ℕ) (v : SpecViewer) → IsStore base store
+        (λ store _. (base : List ℕ) (v : SpecViewer) (c : Content) → IsStore base store
+        → c.kind ≡ kind → c.id ≡ id
         → Tells v store.resources listing.old → Tells v store.resources listing.new
-        × spec.TellGroups v store.resources resource.now listing.new.groups)) }
+        × spec.TellGroups v store.resources c listing.new.groups)) }
     ensures read { OnlyReads S.stands S.is_honest S.failures shelf.old shelf.new result }
 {
-    listing.clear(alloc, resource.id());
-    match resource.kind() {
-        Kind::User => gather_listing(alloc, listing, shelf, resource),
+    listing.clear(alloc, id);
+    match kind {
+        Kind::User => gather_listing(alloc, listing, shelf, id),
         Kind::Group => Ok(()),
     }
 }
 
-/// Gathers the groups that list the resource as a member. The resource may be a user or a group. The visitor
-/// must have no groups yet. Fails with the errors of the shelf.
+/// Gathers the groups that list the resource with the id as a member. The resource may be a user or a group. The
+/// visitor must have no groups yet. Fails with the errors of the shelf.
 fn gather_listing<S: Shelf>(
     alloc: Global,
     listing: &mut ListingVisitor<'_>,
     shelf: &mut S,
-    resource: &Resource,
+    id: Id,
 ) -> Result<(), Failed<ShelfFault>>
     ensures groups { IfOk result (Answers S.stands S.is_honest shelf.old shelf.new
-        (λ store _. (base : List ℕ) (v : SpecViewer) → IsStore base store
-        → Tells v store.resources listing.old → AreListing v resource.now.id [] listing.old.groups
+        (λ store _. (base : List ℕ) (v : SpecViewer) (c : Content) → IsStore base store
+        → c.id ≡ id
+        → Tells v store.resources listing.old → AreListing v id [] listing.old.groups
         → Tells v store.resources listing.new
-        × spec.TellGroups v store.resources resource.now listing.new.groups)) }
+        × spec.TellGroups v store.resources c listing.new.groups)) }
     ensures read { OnlyReads S.stands S.is_honest S.failures shelf.old shelf.new result }
 {
     let mut buffer = [0; Id::TEXT_LENGTH];
-    let value = resource.id().write(&mut buffer);
+    let value = id.write(&mut buffer);
     shelf.groups_with(alloc, value, listing)
 }
 
@@ -103,7 +108,7 @@ pub(crate) fn view_beside<S: Shelf>(
     if !shows_id(patterns) {
         return Ok(None);
     }
-    gather_groups(alloc, listing, shelf, resource)?;
+    gather_groups(alloc, listing, shelf, resource.kind(), resource.id())?;
     let part = viewer.with_groups_by(alloc, patterns, listing.groups(), resource)?;
     Ok(Some(part))
 }

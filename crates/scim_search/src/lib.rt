@@ -7,12 +7,12 @@ mod lookups;
 mod pages;
 mod pattern_cache;
 mod read_patterns;
+mod shown_items;
 mod texts;
 mod unfiltered;
 mod view_builders;
 mod visitors;
 mod walks;
-mod whole_items;
 
 pub use groups_of_resource::groups_beside;
 pub use pages::page_of_query;

@@ -8,6 +8,7 @@ ghost use Rattle.scim_value.specs.Uniqueness.{name_of};
 ghost use Rattle.scim_filter.specs.Relation.{cased};
 ghost use Rattle.scim_view.specs.View.{viewer_of};
 ghost use Rattle.scim_view.specs.Groups.{and_those, views};
+ghost use Rattle.scim_query.specs.ClientSearches.{IsShownPage};
 ghost use Rattle.scim_query.specs.Pages.{IsPage};
 ghost use Rattle.scim_shelf.specs.Shelves.{IsReadFrom, OnlyReads};
 ghost use Rattle.scim_shelf.specs.Stores.{has_name, is_at};
@@ -18,7 +19,7 @@ use crate::visitors::ListingVisitor;
 use scim_cell::Id;
 use scim_filter_grammar::StringLiteral;
 use scim_filter_texts::compared_text;
-use scim_query::{Page, Pager, Query};
+use scim_query::{Page, Pager, Query, shown_page};
 use scim_schema::{Attribute, Kind, Leaf, unique_leaves};
 use scim_shelf::{Shelf, ShelfFault};
 use scim_text::{Failed, NoMemory};
@@ -127,7 +128,8 @@ fn page_of(alloc: Global, part: Option<Part>, query: &Query) -> Result<Page, NoM
 }
 
 /// Returns the page of the query over the list that has only the found resource, or over the empty list if no
-/// resource was found, if it isn't of the kind, or if the client doesn't see it.
+/// resource was found, if it isn't of the kind, or if the client doesn't see it. Items are projected to what the
+/// query wants.
 fn page_found<S: Shelf>(
     alloc: Global,
     viewer: &Viewer<'_>,
@@ -137,12 +139,13 @@ fn page_found<S: Shelf>(
     query: &Query,
 ) -> Result<Page, Failed<ShelfFault>>
     ensures page { IsReadFrom S.stands S.is_honest shelf.old shelf.new result (λ store page.
-        IsPage (views (viewer_of viewer.now) (of_kind Kind.Group store.resources)
+        IsShownPage (views (viewer_of viewer.now) (of_kind Kind.Group store.resources)
         (of_kind kind (and_those found []))) query.now page) }
     ensures read { OnlyReads S.stands S.is_honest S.failures shelf.old shelf.new result }
 {
     let part = seen_if_found(alloc, viewer, shelf, kind, found)?;
-    Ok(page_of(alloc, part, query)?)
+    let whole = page_of(alloc, part, query)?;
+    Ok(shown_page(alloc, whole, &query.wanted)?)
 }
 
 /// Returns the page of the client's query over the resources of a kind. Only the resource with the unique
@@ -157,7 +160,7 @@ pub(crate) fn page_named<S: Shelf>(
 ) -> Result<Page, Failed<ShelfFault>>
     requires { spec.OnlyThose kind query.now.filter (has_name (name_of name.now)) }
     ensures page { IsReadFrom S.stands S.is_honest shelf.old shelf.new result (λ store page.
-        IsPage (views (viewer_of viewer.now) (of_kind Kind.Group store.resources)
+        IsShownPage (views (viewer_of viewer.now) (of_kind Kind.Group store.resources)
         (of_kind kind store.resources)) query.now page) }
     ensures read { OnlyReads S.stands S.is_honest S.failures shelf.old shelf.new result }
 {
@@ -177,7 +180,7 @@ pub(crate) fn page_with_id<S: Shelf>(
 ) -> Result<Page, Failed<ShelfFault>>
     requires { spec.OnlyThose kind query.now.filter (is_at kind id) }
     ensures page { IsReadFrom S.stands S.is_honest shelf.old shelf.new result (λ store page.
-        IsPage (views (viewer_of viewer.now) (of_kind Kind.Group store.resources)
+        IsShownPage (views (viewer_of viewer.now) (of_kind Kind.Group store.resources)
         (of_kind kind store.resources)) query.now page) }
     ensures read { OnlyReads S.stands S.is_honest S.failures shelf.old shelf.new result }
 {

@@ -3,7 +3,7 @@ ghost use Rattle.scim_schema.specs.declared.Kind.{Kind};
 ghost use Rattle.scim_cell.specs.Kinds.{of_kind};
 ghost use Rattle.scim_view.specs.View.{viewer_of};
 ghost use Rattle.scim_view.specs.Groups.{views};
-ghost use Rattle.scim_query.specs.Pages.{IsPage};
+ghost use Rattle.scim_query.specs.ClientSearches.{IsShownPage};
 ghost use Rattle.scim_shelf.specs.Shelves.{IsReadFrom, OnlyReads};
 
 use crate::lookups::{needed_id, needed_name, page_named, page_with_id};
@@ -16,7 +16,7 @@ use scim_view::Viewer;
 use std::alloc::Global;
 
 /// Returns the page of the client's query over the client's view of the resources of a kind (RFC 7644 section
-/// 3.4.2). If the query requires an id or a unique name, only the resource with that id or name and the
+/// 3.4.2), with each item projected to the attributes that the query wants. If the query requires an id or a unique name, only the resource with that id or name and the
 /// groups that list it are read. Otherwise, if each match must have one of some texts at indexed leaves,
 /// only the resources of the kind that have one of these texts are searched, and else all resources of the kind.
 /// If the query has no filter and no sort key, and the client sees all resources of the kind, only the items of
@@ -31,7 +31,7 @@ pub fn page_of_query<S: Shelf>(
     query: &Query,
 ) -> Result<Page, Failed<ShelfFault>>
     ensures page { IsReadFrom S.stands S.is_honest shelf.old shelf.new result (λ store page.
-        IsPage (views (viewer_of viewer.now) (of_kind Kind.Group store.resources)
+        IsShownPage (views (viewer_of viewer.now) (of_kind Kind.Group store.resources)
         (of_kind kind store.resources)) query.now page) }
     ensures read { OnlyReads S.stands S.is_honest S.failures shelf.old shelf.new result }
 {

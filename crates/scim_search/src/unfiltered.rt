@@ -4,14 +4,14 @@ ghost use Rattle.scim_schema.specs.declared.Kind.{Kind};
 ghost use Rattle.scim_cell.specs.Kinds.{of_kind};
 ghost use Rattle.scim_view.specs.View.{viewer_of};
 ghost use Rattle.scim_view.specs.Groups.{views};
-ghost use Rattle.scim_query.specs.Pages.{IsPage};
+ghost use Rattle.scim_query.specs.ClientSearches.{IsShownPage};
 ghost use Rattle.scim_shelf.specs.Shelves.{IsReadFrom, OnlyReads};
 ghost use Rattle.scim_search.specs.ReadPatterns.{ArePatterns};
 ghost use Rattle.scim_search.specs.Unfiltered as spec;
 
 use crate::pattern_cache::PatternCache;
 use crate::read_patterns::ReadPatterns;
-use crate::whole_items::{ItemBuilder, whole_items};
+use crate::shown_items::{ItemBuilder, shown_items};
 use scim_query::{Page, Query};
 use scim_schema::Kind;
 use scim_shelf::{Shelf, ShelfFault, Visitor};
@@ -57,7 +57,7 @@ pub(crate) fn page_of_window<S: Shelf>(
     requires kind { patterns.now.kind ≡ kind }
     requires all { spec.IsOfAll patterns.now query.now }
     ensures page { IsReadFrom S.stands S.is_honest shelf.old shelf.new result (λ store page.
-        IsPage (views (viewer_of viewer.now) (of_kind Kind.Group store.resources)
+        IsShownPage (views (viewer_of viewer.now) (of_kind Kind.Group store.resources)
         (of_kind kind store.resources)) query.now page) }
     ensures read { OnlyReads S.stands S.is_honest S.failures shelf.old shelf.new result }
 {
@@ -67,8 +67,8 @@ pub(crate) fn page_of_window<S: Shelf>(
     let skipped = query.start.saturating_sub(1);
     let total = shelf.each_from(alloc, kind, skipped, query.count, &mut ids)?;
     let cached = PatternCache::new(alloc);
-    let builder = ItemBuilder::new(viewer, kind, patterns, &cached);
-    let items = whole_items(alloc, builder, shelf, ids.items.as_slice())?;
+    let builder = ItemBuilder::new(viewer, kind, patterns, &cached, &query.wanted);
+    let items = shown_items(alloc, builder, shelf, ids.items.as_slice())?;
     Ok(Page {
         total,
         start: query.start.max(1),

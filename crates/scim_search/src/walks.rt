@@ -8,6 +8,7 @@ ghost use Rattle.scim_view.specs.View.{viewer_of};
 ghost use Rattle.scim_view.specs.Groups.{views};
 ghost use Rattle.scim_view.specs.Indexes.{IsIndexOf};
 ghost use Rattle.scim_query.specs.NamedAttributes.{attributes_of, names_groups};
+ghost use Rattle.scim_query.specs.ClientSearches.{IsShownPage};
 ghost use Rattle.scim_query.specs.Pages.{IsPage};
 ghost use Rattle.scim_shelf.specs.Shelves.{Answers, IsReadFrom, OnlyReads};
 ghost use Rattle.scim_shelf.specs.Stores.{Store, IsStore};
@@ -19,12 +20,12 @@ ghost use Rattle.scim_search.specs.Visits.{TakesResource};
 ghost use Rattle.scim_search.specs.Walks as spec;
 
 use crate::read_patterns::ReadPatterns;
+use crate::shown_items::{ItemBuilder, shown_items};
 use crate::texts::searched_texts;
 use crate::unfiltered::{is_of_all, page_of_window};
 use crate::view_builders::{ViewBuilder, ViewScope};
 use crate::visitors::{Found, GroupVisitor, SearchVisitor};
-use crate::whole_items::{ItemBuilder, whole_items};
-use scim_query::{Page, Pager, Query};
+use scim_query::{Page, Pager, Query, shown_page};
 use scim_schema::{Attribute, Kind};
 use scim_shelf::{LeafText, Shelf, ShelfFault};
 use scim_text::{Failed, NoMemory};
@@ -141,17 +142,18 @@ fn page_by_groups<S: Shelf>(
 ) -> Result<Page, Failed<ShelfFault>>
     requires { ArePatterns (viewer_of viewer.now) patterns.now }
     ensures page { IsReadFrom S.stands S.is_honest shelf.old shelf.new result (λ store page.
-        IsPage (views (viewer_of viewer.now) (of_kind Kind.Group store.resources)
+        IsShownPage (views (viewer_of viewer.now) (of_kind Kind.Group store.resources)
         (spec.walked walk.now store.resources)) query.now page) }
     ensures read { OnlyReads S.stands S.is_honest S.failures shelf.old shelf.new result }
 {
     let index = groups_for(alloc, viewer, shelf, walk.kind)?;
     let builder = ViewBuilder::new(viewer, patterns, ViewScope::Whole(&index));
-    Ok(page_made(alloc, builder, shelf, walk, query)?.page)
+    let found = page_made(alloc, builder, shelf, walk, query)?;
+    Ok(shown_page(alloc, found.page, &query.wanted)?)
 }
 
 /// Returns the page of a query that names only `attributes`, and not `groups`. The search evaluates only
-/// these attributes of each resource. Then it reads the items of the page again, as whole resources.
+/// these attributes of each resource. Then it reads the resources of the page again, to make their items.
 fn page_by_named<S: Shelf>(
     alloc: Global,
     viewer: &Viewer<'_>,
@@ -165,7 +167,7 @@ fn page_by_named<S: Shelf>(
     requires named { attributes.now ≡ attributes_of query.now }
     requires no_groups { names_groups query.now ≡ false }
     ensures page { IsReadFrom S.stands S.is_honest shelf.old shelf.new result (λ store page.
-        IsPage (views (viewer_of viewer.now) (of_kind Kind.Group store.resources)
+        IsShownPage (views (viewer_of viewer.now) (of_kind Kind.Group store.resources)
         (spec.walked walk.now store.resources)) query.now page) }
     ensures read { OnlyReads S.stands S.is_honest S.failures shelf.old shelf.new result }
 {
@@ -174,8 +176,8 @@ fn page_by_named<S: Shelf>(
     if found.page.items.as_slice().is_empty() {
         return Ok(found.page);
     }
-    let builder = ItemBuilder::new(viewer, walk.kind, patterns, &found.cached);
-    let items = whole_items(alloc, builder, shelf, found.page.items.as_slice())?;
+    let builder = ItemBuilder::new(viewer, walk.kind, patterns, &found.cached, &query.wanted);
+    let items = shown_items(alloc, builder, shelf, found.page.items.as_slice())?;
     Ok(Page {
         total: found.page.total,
         start: found.page.start,
@@ -183,8 +185,9 @@ fn page_by_named<S: Shelf>(
     })
 }
 
-/// Returns the page of the client's query over the resources of the walk. If no resource of the kind can match,
-/// none is read. If the client sees all resources of the kind and all match, only the items are read.
+/// Returns the page of the client's query over the resources of the walk, with each item projected to what the query
+/// wants. If no resource of the kind can match, none is read. If the client sees all resources of the kind and all
+/// match, only the items are read.
 pub(crate) fn page_of_walk<S: Shelf>(
     alloc: Global,
     viewer: &Viewer<'_>,
@@ -193,13 +196,14 @@ pub(crate) fn page_of_walk<S: Shelf>(
     query: &Query,
 ) -> Result<Page, Failed<ShelfFault>>
     ensures page { IsReadFrom S.stands S.is_honest shelf.old shelf.new result (λ store page.
-        IsPage (views (viewer_of viewer.now) (of_kind Kind.Group store.resources)
+        IsShownPage (views (viewer_of viewer.now) (of_kind Kind.Group store.resources)
         (spec.walked walk.now store.resources)) query.now page) }
     ensures read { OnlyReads S.stands S.is_honest S.failures shelf.old shelf.new result }
 {
     let patterns = ReadPatterns::of(alloc, viewer, walk.kind)?;
     if !patterns.may_find(query) {
-        return Ok(Pager::new(alloc, query).end()?);
+        let none = Pager::new(alloc, query).end()?;
+        return Ok(shown_page(alloc, none, &query.wanted)?);
     }
     if walk.texts.is_none() && is_of_all(&patterns, query) {
         return page_of_window(alloc, viewer, &patterns, shelf, walk.kind, query);

@@ -16,7 +16,7 @@ use Rattle.scim_service.specs.declared.replies.Reply.TheVariants.{Shown}
 use Rattle.scim_service.specs.declared.get_plans.Outcome.{Outcome}
 use Rattle.scim_service.specs.declared.get_plans.GetVisitor.{GetVisitor}
 use Rattle.scim_service.specs.Step.{absence_plan, allowed_row, get_plan, hidden_plan, plan_for_seen}
-use Rattle.scim_service.specs.code.Outcomes.{HasOutcome, IsLent, TakesLent}
+use Rattle.scim_service.specs.code.Outcomes.{IsLent, TakesLent}
 use Rattle.scim_service.proofs.PlanLemmas.{got_is}
 use Rattle.scim_service.proofs.ReplaceLemmas.{hidden_is}
 
@@ -24,7 +24,7 @@ use Rattle.scim_service.proofs.ReplaceLemmas.{hidden_is}
 pub lent : (old new : GetVisitor) (found : Option Content) → FoldsTo TakesLent old (those_found found) new → old.outcome ≡ None
     → IsLent (viewer_of old.viewer.now) old.wanted.now found new.outcome
 lent old new None same none = ap (λ (v : GetVisitor). v.outcome) (sym same) ∙ none
-lent old new (Some c) folds none = subst (λ (v : GetVisitor). HasOutcome (viewer_of old.viewer.now) old.wanted.now c v.outcome) folds.2 folds.1
+lent old new (Some c) folds none = subst (λ (v : GetVisitor). IsLent (viewer_of old.viewer.now) old.wanted.now (Some c) v.outcome) folds.2 folds.1
 
 pub absent_outcome : (v : Viewer) (wanted : Wanted) (turn : Turn) (next : Content → Plan) (found : Option Content) → IsLent v wanted found None
     → absence_plan turn ≡ plan_for_seen v turn next found

@@ -64,7 +64,8 @@ fn outcome_of(
     wanted: &Wanted,
     resource: &Resource,
 ) -> Result<Outcome, NoMemory>
-    ensures { IfOk result (λ outcome. IsOutcome (viewer_of viewer.now) wanted.now resource.now outcome) }
+    ensures { IfOk result (λ outcome.
+        IsOutcome (viewer_of viewer.now) wanted.now resource.now outcome) }
 {
     if wanted.shows_groups(resource) {
         return Ok(Outcome::Copy(resource.try_copy(alloc)?));

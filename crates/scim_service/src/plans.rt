@@ -8,7 +8,8 @@ ghost use Rattle.scim_policy.specs.PatternTable.{rules_in};
 ghost use Rattle.scim_view.specs.View as view;
 ghost use Rattle.scim_view.specs.View.{viewer_of};
 ghost use Rattle.scim_view.specs.Listings.{AreListing};
-ghost use Rattle.scim_query.specs.Pages.{IsPage};
+ghost use Rattle.scim_query.specs.declared.queries.Query.{Query};
+ghost use Rattle.scim_query.specs.ClientSearches.{IsShownPage};
 ghost use Rattle.scim_shelf.specs.Shelves.{Answers, IsReadFrom, OnlyReads};
 ghost use Rattle.scim_shelf.specs.Stores.{AreOf};
 ghost use Rattle.scim_service.specs.Step as spec;
@@ -23,7 +24,7 @@ use scim_audit::{AuditRow, Decided, Refusal};
 use scim_cell::{Id, Text};
 use scim_json::{to_json, to_list_json};
 use scim_policy::{Decision, Patterns};
-use scim_query::{Page, Query, shown_page};
+use scim_query::{Page, Query};
 use scim_schema::{Attribute, Leaf, Op};
 use scim_search::{groups_beside, page_of_query};
 use scim_shelf::{Change, Shelf, ShelfFault};
@@ -341,12 +342,11 @@ fn plan_remove<S: Shelf>(
     Ok(removed_if_seen(alloc, viewer, turn, &resource)?)
 }
 
-/// Returns the JSON of a page, with each item projected to the attributes that the query wants.
-fn list_text(alloc: Global, found: Page, query: &Query) -> Result<Text, NoMemory>
-    ensures { IfOk result (λ text. (view : List Content) → IsPage view query.now found
-        → text ≡ spec.list_text query.now view) }
+/// Returns the JSON of a page, whose items are projected to the attributes that its query wants.
+fn list_text(alloc: Global, page: &Page) -> Result<Text, NoMemory>
+    ensures { IfOk result (λ text. (view : List Content) (query : Query)
+        → IsShownPage view query page.now → text ≡ spec.list_text query view) }
 {
-    let page = shown_page(alloc, found, &query.wanted)?;
     let text = to_list_json(alloc, page.total, page.start, page.items.as_slice())?;
     Ok(Text::new(text))
 }
@@ -365,8 +365,8 @@ fn plan_search<S: Shelf>(
         ≡ spec.search_plan (viewer_of viewer.now) turn.now store.resources query.now) }
     ensures read { OnlyReads S.stands S.is_honest S.failures shelf.old shelf.new result }
 {
-    let found = page_of_query(alloc, viewer, shelf, turn.request.kind, query)?;
-    let text = list_text(alloc, found, query)?;
+    let page = page_of_query(alloc, viewer, shelf, turn.request.kind, query)?;
+    let text = list_text(alloc, &page)?;
     let finding = Finding {
         decided: Decided::Allow,
         rule: None,

@@ -16,16 +16,12 @@ IsOutcome v wanted c (Outcome.Hidden d) = (d ≡ read_decision v c (simple Id)) 
 IsOutcome v wanted c (Outcome.Told d text) = (d ≡ read_decision v c (simple Id)) × (d.allow ≡ true) × ((groups : List Content) → text ≡ resource_text v groups wanted c)
 IsOutcome v wanted c (Outcome.Copy own) = own ≡ c
 
--- The option has the outcome of a GET of the resource.
-abbrev pub HasOutcome : Viewer → Wanted → Content → Option Outcome → Type 0
-HasOutcome v wanted c None = ⊥
-HasOutcome v wanted c (Some outcome) = IsOutcome v wanted c outcome
-
 -- The option has the outcome of a GET of the resource that a look-up found; None if the look-up found none.
 abbrev pub IsLent : Viewer → Wanted → Option Content → Option Outcome → Type 0
 IsLent v wanted None outcome = outcome ≡ None
-IsLent v wanted (Some c) outcome = HasOutcome v wanted c outcome
+IsLent v wanted (Some c) None = ⊥
+IsLent v wanted (Some c) (Some outcome) = IsOutcome v wanted c outcome
 
 -- When the visitor is shown a resource, it makes the outcome of a GET of it.
 abbrev pub TakesLent : GetVisitor → Content → GetVisitor → Type 0
-TakesLent old c new = HasOutcome (viewer_of old.viewer.now) old.wanted.now c new.outcome
+TakesLent old c new = IsLent (viewer_of old.viewer.now) old.wanted.now (Some c) new.outcome

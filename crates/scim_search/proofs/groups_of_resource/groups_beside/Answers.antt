@@ -8,4 +8,4 @@ pub returns-clause-groups : goal.returns-clause-groups
 returns-clause-groups g c store stands honest base is =
     let viewer = viewer_of c.args.viewer.now in
     subst (λ (gs : ListingGroups). TellGroups viewer store.resources c.args.resource.now gs) (sym c.end.ensures)
-    (c.in_ok-gather_groups.ensures.groups store stands honest base viewer is (c.in_ok-listing.ensures store.resources)).1
+    (c.in_ok-gather_groups.ensures.groups store stands honest base viewer c.args.resource.now is (sym c.kind.ensures) (sym c.id-id.ensures) (c.in_ok-listing.ensures store.resources)).1

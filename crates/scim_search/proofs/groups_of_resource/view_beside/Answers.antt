@@ -13,7 +13,7 @@ returns-then-not-shows_id-clause-part g c store stands honest base is own tells 
 pub returns-clause-part : goal.returns-clause-part
 returns-clause-part g c store stands honest base is own tells =
     let seen = c.shows_id.ensures ∙ seen_by (viewer_of c.args.viewer.now) c.args.resource.now c.args.patterns.now own in
-    let gathered = c.in_ok-gather_groups.ensures.groups store stands honest base (viewer_of c.args.viewer.now) is tells in
+    let gathered = c.in_ok-gather_groups.ensures.groups store stands honest base (viewer_of c.args.viewer.now) c.args.resource.now is (sym c.kind.ensures) (sym c.id.ensures) tells in
     let told = gathered.1 in (
       gathered.0,
       rw (sym seen ∙ c.if-not-shows_id.false)

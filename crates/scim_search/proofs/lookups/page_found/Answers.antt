@@ -5,4 +5,10 @@ use Rattle.scim_search.proofs.lookups.page_found.Goals as goal
 
 pub returns-clause-page : goal.returns-clause-page
 returns-clause-page g c store stands honest base is =
-    subst (λ (xs : List Content). IsPage xs c.args.query.now c.in_ok-page_of.field-0) (c.in_ok-part.ensures.part store stands honest base is) c.in_ok-page_of.ensures
+    record {
+      found = c.in_ok-whole.whole;
+      is_page = subst (λ (xs : List Content). IsPage xs c.args.query.now c.in_ok-whole.whole) (c.in_ok-part.ensures.part store stands honest base is) c.in_ok-whole.ensures;
+      total = c.in_ok-shown_page.ensures.total;
+      start = c.in_ok-shown_page.ensures.start;
+      items = c.in_ok-shown_page.ensures.items;
+    }

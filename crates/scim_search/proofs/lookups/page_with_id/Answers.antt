@@ -5,6 +5,7 @@ use Rattle.scim_view.specs.View.{viewer_of}
 use Rattle.scim_shelf.specs.Stores.{is_at}
 use Rattle.scim_search.proofs.LookupLemmas.{page_found_of_all}
 use Rattle.scim_search.proofs.ApartLemmas.{none_at}
+use Rattle.scim_search.proofs.ShownPageLemmas.{shown_as}
 use Rattle.scim_search.proofs.lookups.page_with_id.Goals as goal
 
 pub returns-clause-page : goal.returns-clause-page
@@ -12,6 +13,7 @@ returns-clause-page g c =
     IfOk-weaker c.page_found.result _ _
     (λ page answer store stands honest base is.
     (let found = c.in_ok-owner.ensures.answer store stands (c.page_found.ensures.read.honest honest) in
-    page_found_of_all c.args.kind (is_at c.args.kind c.args.id) (viewer_of c.args.viewer.now) (of_kind Group store.resources) base store c.args.query.now _ page is (none_at c.args.kind c.args.id)
-    c.requires found (answer store (c.in_ok-owner.ensures.read.store store stands) honest base is)))
+    shown_as _ _ c.args.query.now page
+    (λ whole. page_found_of_all c.args.kind (is_at c.args.kind c.args.id) (viewer_of c.args.viewer.now) (of_kind Group store.resources) base store c.args.query.now _ whole is (none_at c.args.kind c.args.id)
+    c.requires found) (answer store (c.in_ok-owner.ensures.read.store store stands) honest base is)))
     c.page_found.ensures.page

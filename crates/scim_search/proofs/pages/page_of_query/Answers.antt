@@ -5,9 +5,10 @@ use Rattle.scim_schema.specs.declared.Kind.TheVariants.{Group}
 use Rattle.scim_cell.specs.Kinds.{of_kind}
 use Rattle.scim_view.specs.View.{viewer_of}
 use Rattle.scim_view.specs.Groups.{views}
-use Rattle.scim_query.specs.Pages.{IsPage}
+use Rattle.scim_query.specs.ClientSearches.{IsShownPage}
 use Rattle.scim_search.specs.Walks.{is_walked}
 use Rattle.scim_search.proofs.LookupLemmas.{page_of_passing}
+use Rattle.scim_search.proofs.ShownPageLemmas.{shown_as}
 use Rattle.scim_search.proofs.pages.page_of_query.Goals as goal
 
 pub returns-in_ok-of-in-None-clause-page : goal.returns-in_ok-of-in-None-clause-page
@@ -18,6 +19,7 @@ returns-in_ok-of-in-None-clause-page g c =
     let groups = of_kind Group store.resources in
     let query = c.args.query.now in
     let walk = c.in_ok-of-in-None.field-0 in
-    page_of_passing c.args.kind (is_walked walk.texts) viewer groups base store query page is c.in_ok-of-in-None.ensures.only
-    (subst (λ (k : Kind). IsPage (views viewer groups (filter (is_walked walk.texts) (of_kind k store.resources))) query page) c.in_ok-of-in-None.ensures.kind (answer store stands honest base is)))
+    shown_as (views viewer groups (filter (is_walked walk.texts) (of_kind c.args.kind store.resources))) (views viewer groups (of_kind c.args.kind store.resources)) query page
+    (λ whole. page_of_passing c.args.kind (is_walked walk.texts) viewer groups base store query whole is c.in_ok-of-in-None.ensures.only)
+    (subst (λ (k : Kind). IsShownPage (views viewer groups (filter (is_walked walk.texts) (of_kind k store.resources))) query page) c.in_ok-of-in-None.ensures.kind (answer store stands honest base is)))
     c.page_of_walk.ensures.page

@@ -5,9 +5,7 @@ use Rattle.scim_query.proofs.Facts.{page_says}
 use Rattle.scim_service.proofs.plans.list_text.Goals as goal
 
 pub returns : goal.returns
-returns c view is =
-    let page = c.in_ok-page.page in
-    let says = page_says view c.args.query.now page
-    (record { found = c.args.found; is_page = is; total = c.in_ok-page.ensures.total; start = c.in_ok-page.ensures.start; items = c.in_ok-page.ensures.items }) in
+returns c view query is =
+    let says = page_says view query c.args.page.now is in
     let items = c.as_slice.ensures.value ∙ says.items in
     c.new.ensures ∙ c.in_ok-text.ensures ∙ (λ i. compact_text (list_data (says.total i) (says.start i) (items i)))
