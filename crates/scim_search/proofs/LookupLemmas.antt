@@ -1,6 +1,6 @@
 -- A search over the resources that can match finds what a search over all finds.
 use Rattle.std.proofs.Common.{◌≡◌, refl, sym, ◌∙◌, ap, subst, ℕ, zero, suc, Bool, true, false, List, [], ◌∷◌, ◌++◌, filter, length, ◌≤◌, inl, inr, arith}
-use Rattle.std.specs.Prelude.{All, AllPairs, Option, None, Some, IfSome, find}
+use Rattle.std.specs.Prelude.{◌&&◌, All, AllPairs, Option, None, Some, IfSome, find}
 use Rattle.std.specs.List.Sorted.{IsSorted}
 use Rattle.std.specs.Ordering.{nat_cmp, is_eq}
 use Rattle.std.specs.Cmp.Lexicographic.{slice_cmp}
@@ -9,6 +9,7 @@ use Rattle.std.proofs.lemmas.Bool.{cases_Bool, false_from_ne_true}
 use Rattle.std.proofs.lemmas.Slice.Eq.{bytes_eq-Decides}
 use Rattle.std.proofs.lemmas.List.Elements.{All-head, All-tail, All-weaker, All-filter, filter-append, filter_passes}
 use denote.Enum.Bare.{same_true, true_same}
+use Rattle.scim_schema.proofs.Facts.{and_second}
 use Rattle.scim_schema.specs.declared.Kind.{Kind}
 use Rattle.scim_schema.specs.contracts.Kind.{the_type as the_kind}
 use Rattle.scim_schema.specs.declared.Attribute.TheVariants.{Id}
@@ -35,9 +36,9 @@ use Rattle.scim_view.proofs.Facts.{and_those_append, seen_stands}
 use Rattle.scim_query.specs.declared.queries.Query.{Query}
 use Rattle.scim_query.specs.declared.queries.Page.{Page}
 use Rattle.scim_query.specs.Pages.{is_match, matching, IsPage}
-use Rattle.scim_shelf.specs.Stores.{Store, IsStore, has_name, is_at}
+use Rattle.scim_shelf.specs.Stores.{Store, IsStore, has_name, is_at, those_at, those_found}
 use Rattle.scim_search.specs.Lookups.{OnlyThose}
-use Rattle.scim_search.proofs.ApartLemmas.{not_both}
+use Rattle.scim_search.proofs.ApartLemmas.{none_at, not_both}
 use Rattle.scim_shelf.proofs.Facts.{filter_swap}
 use Rattle.scim_search.proofs.TextLemmas.{is_equal}
 
@@ -110,6 +111,26 @@ one_has_name name c d apart has = false_from_ne_true (has_name name d) (not_both
 pub found_of_kind : (kind : Kind) (test : Content → Bool) (cs : List Content) → PassesOne test → AllPairs AreApart cs
     → filter test (of_kind kind cs) ≡ of_kind kind (and_those (find test cs) [])
 found_of_kind kind test cs one apart = filter_swap (is_of kind) test cs ∙ ap (of_kind kind) (only_one test cs one apart)
+
+-- what passes one test and then another passes both
+both_kept : (p q : Content → Bool) (cs : List Content) → filter q (filter p cs) ≡ filter (λ c. p c && q c) cs
+both_kept p q [] = refl
+both_kept p q (c ∷ cs) = grind (arith, both_kept p q cs)
+
+found_alone : (o : Option Content) → those_found o ≡ and_those o []
+found_alone None = refl
+found_alone (Some c) = refl
+
+-- of the resources of a kind, only the one that a look-up of an id finds has the id
+pub found_with_id : (kind : Kind) (id : List ℕ) (base : List ℕ) (store : Store) → IsStore base store
+    → those_at kind id store.resources ≡ filter (λ c. is_same_id id c.id) (of_kind kind store.resources)
+found_with_id kind id base store is =
+    let cs = store.resources in
+    found_alone (find (is_at kind id) cs) ∙ sym (both_kept (is_of kind) (λ c. is_same_id id c.id) cs ∙ only_one (is_at kind id) cs (none_at kind id) is.keyed.apart)
+
+-- what must be of the kind and have the id must have the id
+pub only_by_id : (kind : Kind) (f : Option Filter) (id : List ℕ) → OnlyThose kind f (is_at kind id) → OnlyThose kind f (λ c. is_same_id id c.id)
+only_by_id kind f id only v gs c own sound matches = and_second (is_of kind c) (is_same_id id c.id) (only v gs c own sound matches)
 
 -- the page of the resources that can match is that of all
 pub page_of_passing : (kind : Kind) (passes : Content → Bool) (v : Viewer) (gs : List Content) (base : List ℕ) (store : Store) (query : Query) (page : Page)

@@ -24,6 +24,7 @@ use Rattle.scim_shelf.specs.Stores.{Store, IsStore, window}
 use Rattle.scim_search.specs.declared.unfiltered.IdVisitor.{IdVisitor}
 use Rattle.scim_search.specs.Unfiltered.{TakesId}
 use Rattle.scim_search.specs.declared.walks.Walk.{Walk}
+use Rattle.scim_search.specs.declared.walks.WalkScope.TheVariants as scope
 use Rattle.scim_search.specs.ShownItems.{AreItems, SeenResource, item}
 use Rattle.scim_search.proofs.StoreViews.{made_ascends, made_views, strict_sorted}
 use Rattle.scim_search.proofs.WalkLemmas.{all_seen, all_walked}
@@ -75,7 +76,7 @@ module _ (v : Viewer) (kind : Kind) (query : Query) (base : List ℕ) (store : S
   pub window_items : (parts items : List Content) → ids parts ≡ ids shown → AreItems v query.wanted kind store.resources parts items
       → items ≡ map (item v query.wanted groups) shown
   window_items parts items same are =
-      let walk : Walk = record { kind = kind; texts = None } in
+      let walk : Walk = record { kind = kind; scope = scope.WholeKind } in
       let found = all_seen v walk base store is in
       let part : List (SeenResource v kind store.resources) = take query.count (drop (query.start - 1) found.0) in
       let own : map (λ (x : SeenResource v kind store.resources). x.own) found.0 ≡ all = found.1 ∙ ap (filter (sees v)) (sym (all_walked all)) ∙ all_kept v groups all each_seen in

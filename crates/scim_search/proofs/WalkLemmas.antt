@@ -38,7 +38,7 @@ use Rattle.scim_view.specs.declared.views.MayBeSeenPlainlyOf.{MayBeSeenPlainlyOf
 use Rattle.scim_view.specs.declared.projection.Wanted.{Wanted}
 use Rattle.scim_view.specs.declared.viewers.Viewer.{Viewer as ViewerInCode}
 use Rattle.scim_view.specs.View.{Viewer, viewer_of, decision_in, read_in, sees, may_be_seen_of, visible_attributes}
-use Rattle.scim_view.specs.Groups.{and_those, memberships, visible_with, with_groups, view_with_groups, views, seen}
+use Rattle.scim_view.specs.Groups.{memberships, visible_with, with_groups, views, seen}
 use Rattle.scim_query.specs.declared.queries.Query.{Query}
 use Rattle.scim_query.specs.declared.queries.Page.{Page}
 use Rattle.scim_query.specs.NamedAttributes.{attributes_of, names_groups, Alike}
@@ -57,6 +57,7 @@ use Rattle.scim_search.specs.ReadPatterns.{ArePatterns, AreFor}
 use Rattle.std.proofs.lemmas.Option.{same_Some}
 use Rattle.scim_search.specs.ViewBuilders.{made_of_all, IsViewBuilder}
 use Rattle.scim_search.specs.declared.walks.Walk.{Walk}
+use Rattle.scim_search.specs.declared.walks.WalkScope.TheVariants as scope
 use Rattle.scim_search.specs.ShownItems.{SeenResource, item}
 use Rattle.scim_search.specs.Walks.{is_walked, made_of_walk, walked}
 use Rattle.scim_search.proofs.ApartLemmas.{none_at}
@@ -101,25 +102,25 @@ kind_found base store is kind k d lt =
     let cs = store.resources in
     All-filter (is_of kind) (λ c. is_of kind c ≡ true → find (is_at kind c.id) cs ≡ Some c) cs (found_each kind cs is.keyed.apart) k d lt (filter_passes (is_of kind) cs k d lt)
 
--- if no texts are given, a search reads all resources of the kind
-pub all_walked : (cs : List Content) → cs ≡ filter (is_walked None) cs
+-- a search over all resources of the kind reads them all
+pub all_walked : (cs : List Content) → cs ≡ filter (is_walked scope.WholeKind) cs
 all_walked [] = refl
 all_walked (c ∷ cs) = ap (λ (ds : List Content). c ∷ ds) (all_walked cs)
 
 -- each resource that a search reads is the one that a look-up of its id finds
 pub walked_found : (base : List ℕ) (store : Store) → IsStore base store → (walk : Walk)
     → All (λ c. find (is_at walk.kind c.id) store.resources ≡ Some c) (walked walk store.resources)
-walked_found base store is walk = All-filter (is_walked walk.texts) (λ c. find (is_at walk.kind c.id) store.resources ≡ Some c) (of_kind walk.kind store.resources) (kind_found base store is walk.kind)
+walked_found base store is walk = All-filter (is_walked walk.scope) (λ c. find (is_at walk.kind c.id) store.resources ≡ Some c) (of_kind walk.kind store.resources) (kind_found base store is walk.kind)
 
 -- each resource that a search reads is of the kind
 pub walked_kind : (walk : Walk) (cs : List Content) → All (λ c. c.kind ≡ walk.kind) (walked walk cs)
 walked_kind walk cs k d lt =
-    same_true the_kind tt _ walk.kind (All-filter (is_walked walk.texts) (λ c. is_of walk.kind c ≡ true) (of_kind walk.kind cs) (filter_passes (is_of walk.kind) cs) k d lt)
+    same_true the_kind tt _ walk.kind (All-filter (is_walked walk.scope) (λ c. is_of walk.kind c ≡ true) (of_kind walk.kind cs) (filter_passes (is_of walk.kind) cs) k d lt)
 
 -- each resource that a search reads is a part
 walked_parts : (base : List ℕ) (store : Store) → IsStore base store → (walk : Walk) → All IsPart (walked walk store.resources)
 walked_parts base store is walk =
-    All-filter (is_walked walk.texts) IsPart (of_kind walk.kind store.resources) (All-filter (is_of walk.kind) IsPart store.resources (parts_of base store is))
+    All-filter (is_walked walk.scope) IsPart (of_kind walk.kind store.resources) (All-filter (is_of walk.kind) IsPart store.resources (parts_of base store is))
 
 -- a resource that a search reads and the viewer sees: it is of the kind, and a look-up of its id finds it
 record Known (v : Viewer) (kind : Kind) (cs : List Content) (c : Content) : Type 0 where

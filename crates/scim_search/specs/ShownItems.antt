@@ -1,5 +1,5 @@
 -- The items of a page, which are what a reply shows of the resources that a search found.
-use Rattle.std.specs.Prelude.{◌≡◌, ℕ, true, List, Option, None, Some, map, find, if◌then◌else◌}
+use Rattle.std.specs.Prelude.{◌≡◌, true, List, Option, None, Some, map, find, if◌then◌else◌}
 use Rattle.scim_schema.specs.declared.Kind.{Kind}
 use Rattle.scim_schema.specs.declared.Kind.TheVariants.{Group}
 use Rattle.scim_cell.specs.Content.{Content, IsPart}

@@ -1,11 +1,11 @@
--- Searches over all resources of a kind, or over all that have one of some texts.
-use Rattle.std.specs.Prelude.{◌≡◌, ℕ, Bool, true, List, Option, None, Some, Vec, map, filter}
-use Rattle.std.specs.declared.alloc.Global.{Global}
+-- Searches over all resources of a kind, over those that have one of some texts, or over the one with an id.
+use Rattle.std.specs.Prelude.{◌≡◌, ℕ, Bool, true, List, map, filter}
 use Rattle.scim_schema.specs.declared.Leaf.{Leaf}
 use Rattle.scim_schema.specs.Characteristics.{is_case_exact}
 use Rattle.scim_schema.specs.declared.Kind.{Kind}
 use Rattle.scim_schema.specs.declared.Kind.TheVariants.{Group}
 use Rattle.scim_cell.specs.Content.{Content}
+use Rattle.scim_cell.specs.Equality.{is_same_id}
 use Rattle.scim_cell.specs.Kinds.{of_kind}
 use Rattle.scim_filter.specs.Relation.{cased}
 use Rattle.scim_filter_texts.specs.declared.needs.NeededText.{NeededText}
@@ -17,6 +17,8 @@ use Rattle.scim_shelf.specs.declared.leaf_texts.LeafText.{LeafText}
 use Rattle.scim_shelf.specs.Stores.{has_some_text}
 use Rattle.scim_search.specs.declared.view_builders.ViewBuilder.{ViewBuilder}
 use Rattle.scim_search.specs.declared.walks.Walk.{Walk}
+use Rattle.scim_search.specs.declared.walks.WalkScope.{WalkScope}
+use Rattle.scim_search.specs.declared.walks.WalkScope.TheVariants.{WholeKind, SomeText, WithId}
 use Rattle.scim_search.specs.ViewBuilders.{made, made_of_all}
 
 -- the texts are those of the list, as comparisons at their leaves use them
@@ -24,14 +26,15 @@ abbrev pub AreCompared : List NeededText → List LeafText → Type 0
 AreCompared needed texts =
     map {B = Leaf × List ℕ} (λ (t : LeafText). (t.leaf, t.text.now)) texts ≡ map {B = Leaf × List ℕ} (λ (t : NeededText). (t.leaf, cased (is_case_exact t.leaf) t.text.now)) needed
 
--- whether a resource has one of the texts at its leaf; always true if no texts are given
-abbrev pub is_walked : Option (Vec LeafText Global) → Content → Bool
-is_walked None c = true
-is_walked (Some texts) c = has_some_text texts.items c
+-- whether a search with this scope reads a resource of its kind
+abbrev pub is_walked : WalkScope → Content → Bool
+is_walked WholeKind c = true
+is_walked (SomeText texts) c = has_some_text texts.items c
+is_walked (WithId id) c = is_same_id id c.id
 
 -- the resources that a search reads, in order of id
 abbrev pub walked : Walk → List Content → List Content
-walked walk cs = filter (is_walked walk.texts) (of_kind walk.kind cs)
+walked walk cs = filter (is_walked walk.scope) (of_kind walk.kind cs)
 
 -- with the groups of the index, the viewer has the same view of each resource of the kind as with all groups
 -- of the store

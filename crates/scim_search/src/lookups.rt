@@ -16,6 +16,7 @@ ghost use Rattle.scim_search.specs.Lookups as spec;
 
 use crate::groups_of_resource::view_beside;
 use crate::visitors::ListingVisitor;
+use crate::walks::{Walk, page_of_walk};
 use scim_cell::Id;
 use scim_filter_grammar::StringLiteral;
 use scim_filter_texts::compared_text;
@@ -169,7 +170,8 @@ pub(crate) fn page_named<S: Shelf>(
 }
 
 /// Returns the page of the client's query over the resources of a kind. Only the resource with the id can
-/// match. Reads only that resource and the groups that list it.
+/// match. Reads only that resource and the groups that list it. A shelf in memory copies the whole resource only if
+/// the query names `groups`.
 pub(crate) fn page_with_id<S: Shelf>(
     alloc: Global,
     viewer: &Viewer<'_>,
@@ -184,6 +186,9 @@ pub(crate) fn page_with_id<S: Shelf>(
         (of_kind kind store.resources)) query.now page) }
     ensures read { OnlyReads S.stands S.is_honest S.failures shelf.old shelf.new result }
 {
-    let owner = shelf.by_id(alloc, kind, id)?;
-    page_found(alloc, viewer, shelf, kind, owner, query)
+    if query.attributes(alloc)?.contains(&Attribute::Groups) {
+        let owner = shelf.by_id(alloc, kind, id)?;
+        return page_found(alloc, viewer, shelf, kind, owner, query);
+    }
+    page_of_walk(alloc, viewer, shelf, &Walk::with_id(kind, id), query)
 }

@@ -16,11 +16,11 @@ use scim_view::Viewer;
 use std::alloc::Global;
 
 /// Returns the page of the client's query over the client's view of the resources of a kind (RFC 7644 section
-/// 3.4.2), with each item projected to the attributes that the query wants. If the query requires an id or a unique name, only the resource with that id or name and the
-/// groups that list it are read. Otherwise, if each match must have one of some texts at indexed leaves,
-/// only the resources of the kind that have one of these texts are searched, and else all resources of the kind.
-/// If the query has no filter and no sort key, and the client sees all resources of the kind, only the items of
-/// the page are read.
+/// 3.4.2), with each item projected to the attributes that the query wants. If the query requires an id or a unique
+/// name, only the resource with that id or name and the groups that list it are read. Otherwise, if each match must
+/// have one of some texts at indexed leaves, only the resources of the kind that have one of these texts are
+/// searched, and else all resources of the kind. If the query has no filter and no sort key, and the client sees all
+/// resources of the kind, only the items of the page are read.
 ///
 /// Fails with the errors of the shelf, and with `NoMemory`.
 pub fn page_of_query<S: Shelf>(

@@ -128,7 +128,8 @@ impl Visitor for ItemVisitor<'_> {
 }
 
 impl ItemVisitor<'_> {
-    /// Consumes the visitor and returns the item; `None` if it was shown no resource, or one that the client doesn't see.
+    /// Consumes the visitor and returns the item; `None` if it was shown no resource, or one that the client doesn't
+    /// see.
     fn end(self) -> Option<Part>
         ensures { result ≡ self.entry.item }
     {

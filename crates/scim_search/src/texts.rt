@@ -1,7 +1,8 @@
 //! Texts that a query requires at indexed leaves, by which the possible matches are found.
-ghost use Rattle.std.specs.Prelude.{IfOk};
+ghost use Rattle.std.specs.Prelude.{IfOk, IfSome};
+ghost use Rattle.scim_shelf.specs.Stores.{has_some_text};
 ghost use Rattle.scim_search.specs.Lookups.{OnlyThose};
-ghost use Rattle.scim_search.specs.Walks.{AreCompared, is_walked};
+ghost use Rattle.scim_search.specs.Walks.{AreCompared};
 
 use scim_filter_texts::{NeededText, compared_text};
 use scim_query::Query;
@@ -38,7 +39,8 @@ pub(crate) fn searched_texts(
     kind: Kind,
     query: &Query,
 ) -> Result<Option<Vec<LeafText<'_>>>, NoMemory>
-    ensures { IfOk result (λ texts. OnlyThose kind query.now.filter (is_walked texts)) }
+    ensures { IfOk result (λ o. IfSome o (λ texts.
+        OnlyThose kind query.now.filter (has_some_text texts.items))) }
 {
     match query.needed_texts(alloc, indexed_leaves(kind))? {
         Some(needed) => Ok(Some(compared_texts(alloc, needed.as_slice())?)),

@@ -148,7 +148,7 @@ pub(crate) struct SearchVisitor<'a> {
     cached: PatternCache<'a>,
 }
 
-/// The result of a search over the resources that it reads: all of a kind, or those that have one of some texts.
+/// The result of a search over the resources that it reads.
 #[derive(Drop)]
 pub(crate) struct Found<'a> {
     pub(crate) page: Page,

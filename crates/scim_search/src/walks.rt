@@ -1,5 +1,5 @@
-//! Searches that read all resources of a kind, or all that have one of some texts.
-ghost use Rattle.std.specs.Prelude.{◌≡◌, false, ℕ, List, [], IfOk, OnOk};
+//! Searches that read all resources of a kind, those that have one of some texts, or the one with an id.
+ghost use Rattle.std.specs.Prelude.{◌≡◌, false, true, ℕ, List, [], IfOk, OnOk};
 ghost use Rattle.std.specs.List.{FoldsTo};
 ghost use Rattle.scim_schema.specs.declared.Kind.{Kind};
 ghost use Rattle.scim_cell.specs.Content.{Content};
@@ -25,6 +25,7 @@ use crate::texts::searched_texts;
 use crate::unfiltered::{is_of_all, page_of_window};
 use crate::view_builders::{ViewBuilder, ViewScope};
 use crate::visitors::{Found, GroupVisitor, SearchVisitor};
+use scim_cell::Id;
 use scim_query::{Page, Pager, Query, shown_page};
 use scim_schema::{Attribute, Kind};
 use scim_shelf::{LeafText, Shelf, ShelfFault};
@@ -32,12 +33,22 @@ use scim_text::{Failed, NoMemory};
 use scim_view::{GroupIndex, Viewer};
 use std::alloc::Global;
 
-/// The resources that a search reads: those of the kind or, if there are texts, those of the kind that have one of
-/// them at its leaf.
+/// Which resources of a kind a search reads.
+#[derive(Drop)]
+enum WalkScope<'a> {
+    /// All resources of the kind.
+    WholeKind,
+    /// Those that have one of the texts at its leaf.
+    SomeText(Vec<LeafText<'a>>),
+    /// The one with the id, if there is one.
+    WithId(Id),
+}
+
+/// The resources that a search reads.
 #[derive(Drop)]
 pub(crate) struct Walk<'a> {
     kind: Kind,
-    texts: Option<Vec<LeafText<'a>>>,
+    scope: WalkScope<'a>,
 }
 
 impl<'a> Walk<'a> {
@@ -46,10 +57,35 @@ impl<'a> Walk<'a> {
     pub(crate) fn of(alloc: Global, kind: Kind, query: &'a Query) -> Result<Walk<'a>, NoMemory>
         ensures kind { IfOk result (λ walk. walk.kind ≡ kind) }
         ensures only { IfOk result (λ walk.
-            OnlyThose kind query.now.filter (spec.is_walked walk.texts)) }
+            OnlyThose kind query.now.filter (spec.is_walked walk.scope)) }
     {
-        let texts = searched_texts(alloc, kind, query)?;
-        Ok(Walk { kind, texts })
+        match searched_texts(alloc, kind, query)? {
+            Some(texts) => Ok(Walk {
+                kind,
+                scope: WalkScope::SomeText(texts),
+            }),
+            None => Ok(Walk {
+                kind,
+                scope: WalkScope::WholeKind,
+            }),
+        }
+    }
+
+    /// Returns the resource of the kind with the id, if there is one.
+    pub(crate) fn with_id(kind: Kind, id: Id) -> Walk<'a>
+        ensures { result ≡ record { kind = kind; scope = WalkScope.WithId id } }
+    {
+        Walk {
+            kind,
+            scope: WalkScope::WithId(id),
+        }
+    }
+
+    /// Whether the search reads all resources of the kind.
+    fn reads_all(&self) -> bool
+        ensures { result ≡ true → self.now.scope ≡ WalkScope.WholeKind }
+    {
+        matches!(self.scope, WalkScope::WholeKind)
     }
 
     /// Passes the resources to the visitor, in order of id.
@@ -61,15 +97,18 @@ impl<'a> Walk<'a> {
         shelf: &mut S,
         visitor: &mut SearchVisitor<'_>,
     ) -> Result<(), Failed<ShelfFault>>
-        ensures answer { OnOk result ((store : Store) → S.stands shelf.old store
-            → S.is_honest shelf.new
+        ensures answer { OnOk result ((store : Store) (base : List ℕ) → S.stands shelf.old store
+            → S.is_honest shelf.new → IsStore base store
             → FoldsTo TakesResource visitor.old (spec.walked self.now store.resources)
             visitor.new) }
         ensures read { OnlyReads S.stands S.is_honest S.failures shelf.old shelf.new result }
     {
-        match &self.texts {
-            Some(texts) => shelf.each_of(alloc, self.kind, texts.as_slice(), visitor),
-            None => shelf.each(alloc, self.kind, visitor),
+        match &self.scope {
+            WalkScope::WholeKind => shelf.each(alloc, self.kind, visitor),
+            WalkScope::SomeText(texts) => {
+                shelf.each_of(alloc, self.kind, texts.as_slice(), visitor)
+            }
+            WalkScope::WithId(id) => shelf.lend_by_id(alloc, self.kind, *id, visitor),
         }
     }
 }
@@ -205,7 +244,7 @@ pub(crate) fn page_of_walk<S: Shelf>(
         let none = Pager::new(alloc, query).end()?;
         return Ok(shown_page(alloc, none, &query.wanted)?);
     }
-    if walk.texts.is_none() && is_of_all(&patterns, query) {
+    if walk.reads_all() && is_of_all(&patterns, query) {
         return page_of_window(alloc, viewer, &patterns, shelf, walk.kind, query);
     }
     let attributes = query.attributes(alloc)?;

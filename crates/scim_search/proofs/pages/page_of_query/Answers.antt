@@ -19,7 +19,7 @@ returns-in_ok-of-in-None-clause-page g c =
     let groups = of_kind Group store.resources in
     let query = c.args.query.now in
     let walk = c.in_ok-of-in-None.field-0 in
-    shown_as (views viewer groups (filter (is_walked walk.texts) (of_kind c.args.kind store.resources))) (views viewer groups (of_kind c.args.kind store.resources)) query page
-    (λ whole. page_of_passing c.args.kind (is_walked walk.texts) viewer groups base store query whole is c.in_ok-of-in-None.ensures.only)
-    (subst (λ (k : Kind). IsShownPage (views viewer groups (filter (is_walked walk.texts) (of_kind k store.resources))) query page) c.in_ok-of-in-None.ensures.kind (answer store stands honest base is)))
+    shown_as (views viewer groups (filter (is_walked walk.scope) (of_kind c.args.kind store.resources))) (views viewer groups (of_kind c.args.kind store.resources)) query page
+    (λ whole. page_of_passing c.args.kind (is_walked walk.scope) viewer groups base store query whole is c.in_ok-of-in-None.ensures.only)
+    (subst (λ (k : Kind). IsShownPage (views viewer groups (filter (is_walked walk.scope) (of_kind k store.resources))) query page) c.in_ok-of-in-None.ensures.kind (answer store stands honest base is)))
     c.page_of_walk.ensures.page

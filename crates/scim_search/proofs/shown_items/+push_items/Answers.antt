@@ -1,4 +1,4 @@
-use Rattle.std.proofs.Common.{◌≡◌, sym, ◌∙◌, ap, List, ◌∷◌, map, drop}
+use Rattle.std.proofs.Common.{◌≡◌, sym, ◌∙◌, ap, ◌∷◌, map, drop}
 use Rattle.std.proofs.lemmas.Result.{IfOk-weaker}
 use Rattle.scim_schema.specs.declared.Kind.TheVariants.{Group}
 use Rattle.scim_cell.specs.Content.{Content}

@@ -2,7 +2,6 @@ use Rattle.std.proofs.Common.{subst, List}
 use Rattle.std.specs.Prelude.{Option, IfSome, Vec}
 use Rattle.std.specs.declared.alloc.Global.{Global}
 use Rattle.scim_schema.specs.declared.Leaf.{Leaf}
-use Rattle.scim_schema.specs.IndexedLeaves.{indexed_leaves}
 use Rattle.scim_filter_texts.specs.declared.needs.NeededText.{NeededText}
 use Rattle.scim_filter_texts.specs.Needed.{AreAt}
 use Rattle.scim_query.specs.Needed.{NeedsSome}

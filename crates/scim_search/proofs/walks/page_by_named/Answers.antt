@@ -1,4 +1,4 @@
-use Rattle.std.proofs.Common.{◌≡◌, refl, sym, ◌∙◌, subst, []}
+use Rattle.std.proofs.Common.{◌≡◌, sym, ◌∙◌, subst, []}
 use Rattle.scim_schema.specs.declared.Kind.TheVariants.{Group}
 use Rattle.scim_cell.specs.Kinds.{of_kind}
 use Rattle.scim_view.specs.View.{viewer_of}

@@ -28,12 +28,12 @@ returns-clause-page g c store stands honest groups base is valid =
     let first = c.new-search.result in
     let fresh = c.new-search.ensures in
     let last = c.show.new.visitor in
-    let took = took_resources first those last (c.in_ok-show.ensures.answer store stands honest) in
+    let took = took_resources first those last (c.in_ok-show.ensures.answer store base stands honest valid) in
     let taken : HasTaken parts last.pager =
     subst (λ (s : ViewBuilder). HasTaken (made_of_walk groups s walk store.resources) last.pager) fresh.builder
     (took.taken groups [] (subst (IsViewBuilder groups) (sym fresh.builder) is) fresh.skips fresh.taken) in
     let ascend = strict_sorted parts (made_ascends make viewer (made_id viewer groups builder.scope) those
-    (IsStrictlySortedBy-filter id_cmp (is_walked walk.texts) (of_kind kind store.resources) (IsStrictlySortedBy-filter id_cmp (is_of kind) store.resources valid.keyed.ascending))) in
+    (IsStrictlySortedBy-filter id_cmp (is_walked walk.scope) (of_kind kind store.resources) (IsStrictlySortedBy-filter id_cmp (is_of kind) store.resources valid.keyed.ascending))) in
     let kept = took.cached groups store.resources kind (subst (IsViewBuilder groups) (sym fresh.builder) is) (walked_found base store valid walk) (fresh.cached (viewer_of first.builder.viewer.now) kind store.resources) in (
       subst (λ (q : Bor Query). IsPage parts q.now c.in_ok-end.field-0.page) (took.query ∙ fresh.query) (c.in_ok-end.ensures.page parts taken (λ e. ascend)),
       subst (Recalls viewer kind store.resources) (sym c.in_ok-end.ensures.cached) (subst (λ (s : ViewBuilder). Recalls (viewer_of s.viewer.now) kind store.resources last.cached) fresh.builder kept),

@@ -1,6 +1,4 @@
 use Rattle.std.proofs.Common.{rules, ◌≡◌, sym, ◌∙◌, ap, subst, List, [], filter, arith}
-use Rattle.std.specs.Prelude.{Option, None, Vec}
-use Rattle.std.specs.declared.alloc.Global.{Global}
 use Rattle.std.proofs.lemmas.Result.{IfOk-weaker}
 use denote.Ref.{Bor}
 use Rattle.scim_schema.specs.declared.Kind.TheVariants.{Group}
@@ -11,7 +9,8 @@ use Rattle.scim_view.specs.Groups.{views}
 use Rattle.scim_query.specs.declared.queries.Query.{Query}
 use Rattle.scim_query.specs.ClientSearches.{IsShownPage}
 use Rattle.scim_query.specs.Pages.{IsPage}
-use Rattle.scim_shelf.specs.declared.leaf_texts.LeafText.{LeafText}
+use Rattle.scim_search.specs.declared.walks.WalkScope.{WalkScope}
+use Rattle.scim_search.specs.declared.walks.WalkScope.TheVariants as scope
 use Rattle.scim_search.specs.Walks.{is_walked, walked}
 use Rattle.scim_search.proofs.LookupLemmas.{page_of_matching, one_in_order}
 use Rattle.scim_search.proofs.WalkLemmas.{all_walked, none_matches}
@@ -34,10 +33,10 @@ returns-then-not-may_find-clause-page g c store stands honest base is =
 pub returns-then-is_of_all-clause-page : goal.returns-then-is_of_all-clause-page
 returns-then-is_of_all-clause-page g c =
     let walk = c.args.walk.now in
-    let whole : walk.texts ≡ None = search rules in
+    let whole : walk.scope ≡ scope.WholeKind = search rules in
     IfOk-weaker c.page_of_window.result _ _
     (λ page answer store stands honest base is.
     let all = of_kind walk.kind store.resources in
-    let same : all ≡ walked walk store.resources = all_walked all ∙ ap (λ (texts : Option (Vec LeafText Global)). filter (is_walked texts) all) (sym whole) in
+    let same : all ≡ walked walk store.resources = all_walked all ∙ ap (λ (s : WalkScope). filter (is_walked s) all) (sym whole) in
     subst (λ (cs : List Content). IsShownPage (views (viewer_of c.args.viewer.now) (of_kind Group store.resources) cs) c.args.query.now page) same (answer store stands honest base is))
     c.page_of_window.ensures.page
