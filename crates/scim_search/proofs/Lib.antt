@@ -11,3 +11,6 @@ pub mod TextLemmas
 pub mod VisitLemmas
 pub mod WalkLemmas
 pub mod UnfilteredLemmas
+pub mod GroupTextLemmas
+pub mod PossibleIdLemmas
+pub mod PageByIdLemmas

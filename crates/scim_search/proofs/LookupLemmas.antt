@@ -23,6 +23,7 @@ use Rattle.scim_cell.specs.Ids.{IsId, id_text}
 use Rattle.scim_cell.proofs.Facts.{id_text-injective}
 use Rattle.scim_cell.specs.Kinds.{is_of, of_kind}
 use Rattle.scim_cell.specs.Order.{id_cmp}
+use Rattle.scim_cell.specs.Rows.{rows}
 use Rattle.scim_value.specs.Resource.{IsResource, HasBase}
 use Rattle.scim_value.specs.Uniqueness.{Name, AreApart}
 use Rattle.scim_filter_grammar.specs.declared.tree.Filter.{Filter}
@@ -31,6 +32,7 @@ use Rattle.scim_view.specs.Groups.{and_those, with_groups, view_with_groups, vie
 use Rattle.scim_filter_grammar.specs.declared.tree.Literal.TheVariants as literal
 use Rattle.scim_filter_grammar.specs.declared.tree.Operator.TheVariants.{Eq}
 use Rattle.scim_filter.specs.Relation.{stands}
+use Rattle.scim_filter_texts.specs.Needed as needed
 use Rattle.scim_query.specs.Needed.{NeedsText}
 use Rattle.scim_view.proofs.Facts.{and_those_append, seen_stands}
 use Rattle.scim_query.specs.declared.queries.Query.{Query}
@@ -65,15 +67,14 @@ narrowed f v gs passes (c ∷ cs) only =
           rw u (rest ∙ sym (all ∙ ap (λ (xs : List Content). xs ++ matching f (views v gs cs)) (none_matching f v gs c differs)))
     ]
 
--- so the page is that of the resources that can match
-pub page_narrowed : (kind : Kind) (f : Option Filter) (passes : Content → Bool) (v : Viewer) (gs : List Content) (base : List ℕ) (store : Store)
-    → IsStore base store → OnlyThose kind f passes
-    → matching f (views v gs (filter passes (of_kind kind store.resources))) ≡ matching f (views v gs (of_kind kind store.resources))
-page_narrowed kind f passes v gs base store is only =
+-- only the resources of a store that pass can match, whoever views them, and with whatever groups
+pub possible : (kind : Kind) (f : Option Filter) (passes : Content → Bool) (v : Viewer) (gs : List Content) (base : List ℕ) (store : Store)
+    → IsStore base store → OnlyThose kind f passes → All (λ c. is_match f (with_groups v gs c) ≡ true → passes c ≡ true) (of_kind kind store.resources)
+possible kind f passes v gs base store is only =
     let cs = of_kind kind store.resources in
     let sound : All (λ c. IsResource c × HasBase base c) cs = All-filter (is_of kind) (λ c. IsResource c × HasBase base c) store.resources is.sound in
     let own : All (λ c. is_of kind c ≡ true) cs = filter_passes (is_of kind) store.resources in
-    narrowed f v gs passes cs (λ k c lt matches. only v gs _ (same_true the_kind tt _ kind (own k c lt)) (sound k c lt).0 matches)
+    λ k c lt matches. only v gs _ (same_true the_kind tt _ kind (own k c lt)) (sound k c lt).0 matches
 
 -- a page of a list is one of any list of which the same matches
 pub page_of_matching : (xs ys : List Content) (query : Query) (page : Page) → matching query.filter xs ≡ matching query.filter ys → IsPage xs query page → IsPage ys query page
@@ -132,13 +133,19 @@ found_with_id kind id base store is =
 pub only_by_id : (kind : Kind) (f : Option Filter) (id : List ℕ) → OnlyThose kind f (is_at kind id) → OnlyThose kind f (λ c. is_same_id id c.id)
 only_by_id kind f id only v gs c own sound matches = and_second (is_of kind c) (is_same_id id c.id) (only v gs c own sound matches)
 
+-- the page of the resources of a list that can match is that of the list
+pub page_of_possible : (passes : Content → Bool) (v : Viewer) (gs cs : List Content) (query : Query) (page : Page)
+    → All (λ c. is_match query.filter (with_groups v gs c) ≡ true → passes c ≡ true) cs
+    → IsPage (views v gs (filter passes cs)) query page → IsPage (views v gs cs) query page
+page_of_possible passes v gs cs query page only is =
+    page_of_matching (views v gs (filter passes cs)) (views v gs cs) query page (narrowed query.filter v gs passes cs only) is
+
 -- the page of the resources that can match is that of all
 pub page_of_passing : (kind : Kind) (passes : Content → Bool) (v : Viewer) (gs : List Content) (base : List ℕ) (store : Store) (query : Query) (page : Page)
     → IsStore base store → OnlyThose kind query.filter passes
     → IsPage (views v gs (filter passes (of_kind kind store.resources))) query page → IsPage (views v gs (of_kind kind store.resources)) query page
 page_of_passing kind passes v gs base store query page is only =
-    let all = of_kind kind store.resources in
-    page_of_matching (views v gs (filter passes all)) (views v gs all) query page (page_narrowed kind query.filter passes v gs base store is only)
+    page_of_possible passes v gs (of_kind kind store.resources) query page (possible kind query.filter passes v gs base store is only)
 
 -- the page of what was found is that of all, where only that can match
 pub page_found_of_all : (kind : Kind) (test : Content → Bool) (v : Viewer) (gs : List Content) (base : List ℕ) (store : Store) (query : Query) (found : Option Content) (page : Page)
@@ -162,13 +169,18 @@ of_own_kind kind v gs c part own same = rw own (ap (λ (o : Option Content). and
 pub one_in_order : (cs : List Content) → length cs ≤ 1 → IsSorted id_cmp cs
 one_in_order cs few k d low high = absurd (omega arith)
 
+-- the text that is seen at `id` is that of the resource's id
+pub seen_id : (text : List ℕ) (v : Viewer) (gs : List Content) (c : Content) → IsResource c → needed.has_text (simple Id) text (rows (with_groups v gs c)) ≡ true → id_text c.id ≡ text
+seen_id text v gs c sound has =
+    let found = seen_stands (λ (a : Atom). stands (is_case_exact (simple Id)) Eq a (literal.Text text)) (simple Id) v gs c refl refl sound.part has in
+    let atom : Text (id_text c.id) ≡ found.0 = (let both : Some (Text (id_text c.id)) ≡ Some found.0 = sym sound.identified.1 ∙ found.1 in cc) in
+    let equal : is_eq (slice_cmp nat_cmp (id_text c.id) text) ≡ true = ap (λ (b : Atom). stands (is_case_exact (simple Id)) Eq b (literal.Text text)) atom ∙ found.2 in
+    exact_bytes (id_text c.id) text (is_equal _ equal)
+
 -- where no part matches in which the text of an id doesn't stand at `id`, only the resource with that id can match
 pub id_by_text : (kind : Kind) (f : Option Filter) (text id : List ℕ) → NeedsText f (simple Id) text → text ≡ id_text id → IsId id → OnlyThose kind f (is_at kind id)
 id_by_text kind f text id needs is valid v gs c own sound matches =
-    let found = seen_stands (λ (a : Atom). stands (is_case_exact (simple Id)) Eq a (literal.Text text)) (simple Id) v gs c refl refl sound.part (needs (with_groups v gs c) matches) in
-    let atom : Text (id_text c.id) ≡ found.0 = (let both : Some (Text (id_text c.id)) ≡ Some found.0 = sym sound.identified.1 ∙ found.1 in cc) in
-    let equal : is_eq (slice_cmp nat_cmp (id_text c.id) text) ≡ true = ap (λ (b : Atom). stands (is_case_exact (simple Id)) Eq b (literal.Text text)) atom ∙ found.2 in
-    let texts : id_text c.id ≡ id_text id = exact_bytes (id_text c.id) text (is_equal _ equal) ∙ is in
+    let texts : id_text c.id ≡ id_text id = seen_id text v gs c sound (needs (with_groups v gs c) matches) ∙ is in
     let ids : c.id ≡ id = id_text-injective c.id id sound.identified.0 valid texts in
     let same : is_same_id id c.id ≡ true = (bytes_eq-Decides id c.id).1 (sym ids) in
     rw (true_same the_kind c.kind kind own) same

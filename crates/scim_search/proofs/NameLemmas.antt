@@ -21,14 +21,16 @@ use Rattle.scim_cell.specs.declared.atoms.Atom.TheVariants.{Text}
 use Rattle.scim_cell.specs.Place.{unit_cmp}
 use Rattle.scim_cell.specs.Content.{Content, IsPart, HasType}
 use Rattle.scim_cell.specs.Rows.{Row, rows, values, atom_at, IsSoundRow}
-use Rattle.scim_value.specs.Resource.{first_at}
+use Rattle.scim_value.specs.Resource.{IsResource, first_at}
 use Rattle.scim_value.specs.Uniqueness.{Name, name_at}
 use Rattle.scim_value.proofs.Facts.{get_cell, sound_part}
 use Rattle.scim_filter_grammar.specs.declared.tree.Filter.{Filter}
 use Rattle.scim_filter_grammar.specs.declared.tree.Literal.TheVariants as literal
 use Rattle.scim_filter_grammar.specs.declared.tree.Operator.TheVariants.{Eq}
 use Rattle.scim_filter.specs.Relation.{cased, stands}
+use Rattle.scim_filter_texts.specs.Needed as needed
 use Rattle.scim_query.specs.Needed.{NeedsText}
+use Rattle.scim_view.specs.View.{Viewer}
 use Rattle.scim_view.specs.Groups.{with_groups}
 use Rattle.scim_view.proofs.Facts.{seen_stands}
 use Rattle.scim_shelf.specs.Stores.{has_name, is_same_name}
@@ -57,7 +59,7 @@ record IsOneTextLeaf (l : Leaf) : Type 0 where
   text : IsTextLeaf User l
 
 -- the name at a leaf for a text
-abbrev named : Leaf → List ℕ → Name
+abbrev pub named : Leaf → List ℕ → Name
 named l text = record { leaf = l; text = cased (is_case_exact l) text }
 
 -- a text at a leaf makes the name for each text that compares as it does
@@ -78,6 +80,11 @@ among names (l ∷ ls) =
     (All-weaker (IsAmong names ls) (IsAmong names (l ∷ ls))
     (λ m also n e. list_any-append (is_same_name n) (names l) (flat_map names ls) ∙ or_right (list_any (is_same_name n) (names l)) _ (also n e)) ls (among names ls))
 
+-- a resource in which a text is seen at a unique leaf has that name
+abbrev pub NamesSeen : Kind → Leaf → Type 0
+NamesSeen kind leaf = (text : List ℕ) (v : Viewer) (gs : List Content) (c : Content) → c.kind ≡ kind → IsResource c
+    → needed.has_text leaf text (rows (with_groups v gs c)) ≡ true → has_name (named leaf text) c ≡ true
+
 -- where no part matches in which a text doesn't stand at a unique leaf, only a resource with that name can match
 abbrev pub NamesByText : Kind → Leaf → Type 0
 NamesByText kind leaf = (f : Option Filter) (text : List ℕ) → NeedsText f leaf text → OnlyThose kind f (has_name (record { leaf = leaf; text = cased (is_case_exact leaf) text }))
@@ -86,9 +93,9 @@ NamesByText kind leaf = (f : Option Filter) (text : List ℕ) → NeedsText f le
 abbrev IsNameLeaf : Leaf → Type 0
 IsNameLeaf l = IsOneTextLeaf l × ((c : Content) → c.kind ≡ User → (n : Name) → list_any (is_same_name n) (name_at User l (first_at l c)) ≡ true → has_name n c ≡ true)
 
-by_text : (l : Leaf) → IsNameLeaf l → NamesByText User l
-by_text l leaf f text needs v gs c is sound matches =
-    let found = seen_stands (λ (a : Atom). stands (is_case_exact l) Eq a (literal.Text text)) l v gs c leaf.0.single leaf.0.text.stored sound.part (needs (with_groups v gs c) matches) in
+seen_name : (l : Leaf) → IsNameLeaf l → NamesSeen User l
+seen_name l leaf text v gs c is sound has =
+    let found = seen_stands (λ (a : Atom). stands (is_case_exact l) Eq a (literal.Text text)) l v gs c leaf.0.single leaf.0.text.stored sound.part has in
     let fits : FitsLeaf User l (first_at l c) = subst (λ (k : Kind). FitsLeaf k l (first_at l c)) is (fits_part c l sound.part) in
     let typed : HasType (characteristics_of User l).attribute_type found.0 = subst (FitsLeaf User l) found.1 fits in
     let is_text = equal_text (is_case_exact l) found.0 text (subst (λ t. HasType t found.0) leaf.0.text.type typed) found.2 in
@@ -105,7 +112,12 @@ names_among : (l : Leaf) → ((names : Leaf → List Name) → IsAmong names (un
     → list_any (is_same_name n) (name_at User l (first_at l c)) ≡ true → has_name n c ≡ true
 names_among l each c is n e = rw is (each (λ (m : Leaf). name_at User m (first_at m c)) n e)
 
-pub names_by_text : (kind : Kind) → All (NamesByText kind) (unique_leaves kind)
+pub names_seen : (kind : Kind) → All (NamesSeen kind) (unique_leaves kind)
 unfolding unique_leaves
-names_by_text User = λ k d lt. by_text _ (text_leaves k d lt, names_among _ (λ names. among names (unique_leaves User) k d lt))
-names_by_text Group = λ k d lt. absurd (omega (arith, lt))
+names_seen User = λ k d lt. seen_name _ (text_leaves k d lt, names_among _ (λ names. among names (unique_leaves User) k d lt))
+names_seen Group = λ k d lt. absurd (omega (arith, lt))
+
+pub names_by_text : (kind : Kind) → All (NamesByText kind) (unique_leaves kind)
+names_by_text kind =
+    All-weaker (NamesSeen kind) (NamesByText kind)
+    (λ l seen f text needs v gs c is sound matches. seen text v gs c is sound (needs (with_groups v gs c) matches)) (unique_leaves kind) (names_seen kind)

@@ -25,14 +25,14 @@ use Rattle.scim_search.specs.Walks.{AreCompared}
 use Rattle.scim_search.proofs.TextLemmas.{IsTextLeaf, indexed_text_leaves, stored_text}
 
 -- a statement about all leaves of a list holds for one of them
-one_of_leaves : (P : Leaf → Type 0) (l : Leaf) (ls : List Leaf) → All P ls → list_any (is_same_leaf l) ls ≡ true → P l
+pub one_of_leaves : (P : Leaf → Type 0) (l : Leaf) (ls : List Leaf) → All P ls → list_any (is_same_leaf l) ls ≡ true → P l
 one_of_leaves P l [] all e = cc
 one_of_leaves P l (m ∷ ls) all e = elim (cases_Bool (is_same_leaf l m)) [
   | inl t ↦ subst P (sym (leaf_one l m t)) (All-head P m ls all)
   | inr n ↦ one_of_leaves P l ls (All-tail P m ls all) (rw n at e)
 ]
 
-any_mapped : {X Y : Type 0} (p : Y → Bool) (f : X → Y) (xs : List X) → list_any p (map f xs) ≡ list_any (λ x. p (f x)) xs
+pub any_mapped : {X Y : Type 0} (p : Y → Bool) (f : X → Y) (xs : List X) → list_any p (map f xs) ≡ list_any (λ x. p (f x)) xs
 any_mapped p f [] = refl
 any_mapped p f (x ∷ xs) = ap (λ b. p (f x) || b) (any_mapped p f xs)
 

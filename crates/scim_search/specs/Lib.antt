@@ -7,3 +7,5 @@ pub mod ViewBuilders
 pub mod Visits
 pub mod Walks
 pub mod Unfiltered
+pub mod PossibleIds
+pub mod PagesById

@@ -5,7 +5,9 @@
 mod groups_of_resource;
 mod lookups;
 mod pages;
+mod pages_by_id;
 mod pattern_cache;
+mod possible_ids;
 mod read_patterns;
 mod shown_items;
 mod texts;

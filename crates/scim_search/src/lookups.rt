@@ -29,7 +29,11 @@ use scim_view::Viewer;
 use std::alloc::Global;
 
 /// Returns the unique name for a text at a leaf, as comparisons use it.
-fn known_name(alloc: Global, leaf: Leaf, text: &StringLiteral) -> Result<UniqueName, NoMemory>
+pub(crate) fn known_name(
+    alloc: Global,
+    leaf: Leaf,
+    text: &StringLiteral,
+) -> Result<UniqueName, NoMemory>
     ensures leaf { IfOk result (λ name. name.leaf ≡ leaf) }
     ensures text { IfOk result (λ name. (name_of name).text ≡ cased (is_case_exact leaf) text.now) }
 {

@@ -7,6 +7,8 @@ ghost use Rattle.scim_query.specs.ClientSearches.{IsShownPage};
 ghost use Rattle.scim_shelf.specs.Shelves.{IsReadFrom, OnlyReads};
 
 use crate::lookups::{needed_id, needed_name, page_named, page_with_id};
+use crate::pages_by_id::page_of_texts;
+use crate::possible_ids::possible_texts;
 use crate::walks::{Walk, page_of_walk};
 use scim_query::{Page, Query};
 use scim_schema::Kind;
@@ -15,12 +17,38 @@ use scim_text::Failed;
 use scim_view::Viewer;
 use std::alloc::Global;
 
+/// Returns the page of the client's query over the resources of a kind, where the query requires neither an id nor a
+/// unique name. Items are projected to what the query wants.
+///
+/// Fails with the errors of the shelf, and with `NoMemory`.
+fn page_unnamed<S: Shelf>(
+    alloc: Global,
+    viewer: &Viewer<'_>,
+    shelf: &mut S,
+    kind: Kind,
+    query: &Query,
+) -> Result<Page, Failed<ShelfFault>>
+    ensures page { IsReadFrom S.stands S.is_honest shelf.old shelf.new result (λ store page.
+        IsShownPage (views (viewer_of viewer.now) (of_kind Kind.Group store.resources)
+        (of_kind kind store.resources)) query.now page) }
+    ensures read { OnlyReads S.stands S.is_honest S.failures shelf.old shelf.new result }
+{
+    let walk = Walk::of(alloc, kind, query)?;
+    if !walk.has_texts() {
+        if let Some(texts) = possible_texts(alloc, kind, query)? {
+            return page_of_texts(alloc, viewer, shelf, kind, texts.as_slice(), query);
+        }
+    }
+    page_of_walk(alloc, viewer, shelf, &walk, query)
+}
+
 /// Returns the page of the client's query over the client's view of the resources of a kind (RFC 7644 section
 /// 3.4.2), with each item projected to the attributes that the query wants. If the query requires an id or a unique
 /// name, only the resource with that id or name and the groups that list it are read. Otherwise, if each match must
 /// have one of some texts at indexed leaves, only the resources of the kind that have one of these texts are
-/// searched, and else all resources of the kind. If the query has no filter and no sort key, and the client sees all
-/// resources of the kind, only the items of the page are read.
+/// searched; if it must have one of some texts that are ids, unique names, texts at indexed leaves or ids of groups,
+/// only the resources that these lead to; and else all resources of the kind. If the query has no filter and no sort
+/// key, and the client sees all resources of the kind, only the items of the page are read.
 ///
 /// Fails with the errors of the shelf, and with `NoMemory`.
 pub fn page_of_query<S: Shelf>(
@@ -40,6 +68,6 @@ pub fn page_of_query<S: Shelf>(
     }
     match needed_name(alloc, kind, query)? {
         Some(name) => page_named(alloc, viewer, shelf, kind, &name, query),
-        None => page_of_walk(alloc, viewer, shelf, &Walk::of(alloc, kind, query)?, query),
+        None => page_unnamed(alloc, viewer, shelf, kind, query),
     }
 }

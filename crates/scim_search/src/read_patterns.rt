@@ -57,6 +57,13 @@ impl<'a> ReadPatterns<'a> {
         Ok(ReadPatterns { kind, form })
     }
 
+    /// Returns the kind of the resources.
+    pub(crate) fn kind(&self) -> Kind
+        ensures { result ≡ self.now.kind }
+    {
+        self.kind
+    }
+
     /// Returns the patterns on all resources of the kind; `None` if they differ by resource, or if this
     /// resource isn't of the kind.
     pub(crate) fn on_all(&self, resource: &Resource) -> Option<&Patterns<'a>>

@@ -88,6 +88,11 @@ impl<'a> Walk<'a> {
         matches!(self.scope, WalkScope::WholeKind)
     }
 
+    /// Whether only the resources that have one of some texts are read.
+    pub(crate) fn has_texts(&self) -> bool {
+        matches!(self.scope, WalkScope::SomeText(_))
+    }
+
     /// Passes the resources to the visitor, in order of id.
     ///
     /// Fails with the errors of the shelf.
