@@ -1,9 +1,12 @@
 -- What a commit leaves of a store.
-use Rattle.std.proofs.Common.{◌≡◌, ◌≢◌, IsTrue, ◌∙◌, sym, subst, refl, ap, ℕ, List, Option}
+use Rattle.std.proofs.Common.{◌≡◌, ◌≢◌, IsTrue, true, ◌∙◌, sym, subst, refl, ap, ℕ, List, Option, arith}
 use Rattle.sqlite.specs.Effect.{Database}
 use Rattle.sqlite.specs.State.{State, HasCleanDisk, Survives}
 use Rattle.sqlite.specs.Tree.{Trees}
+use Rattle.sqlite.specs.Held.{Held, state}
+use Rattle.sqlite.proofs.Callers.{survives_begin}
 use Rattle.sqlite.proofs.StateLemmas.{survives_then, survives_weaker}
+use Rattle.sqlite_trees.specs.declared.store.Store.{Ghosts}
 use Rattle.scim_cell.specs.Content.{Content}
 use Rattle.scim_audit.specs.declared.audit_rows.AuditRow.{AuditRow}
 use Rattle.scim_shelf.specs.declared.changes.Change.{Change}
@@ -22,45 +25,36 @@ use Rattle.scim_store_rows.specs.Stands.{StandsFor}
 
 -- ---- what a crash leaves
 
+-- a transaction and its commit
+pub transaction_survives : {S : Type 0} (g : Ghosts S) (P : Database → Database → Type 0) (old : Held S) (last end : State) → Survives (state g (record old { in_transaction = true })) last (λ _. ⊥) → (HasCleanDisk last → P (state g old).now last.now)
+    → Survives last end (λ trees. trees ≡ last.now.trees) → Survives (state g old) end (Leaves P (state g old).now)
+transaction_survives g P old last end ran_on ran commits =
+    survives_then (state g old) last end _ _ _ (λ _ trees none. absurd none) (λ clean trees is. (last.now, is, ran (omega (arith, commits.clean)))) (survives_begin g old last _ ran_on) commits
+
 foreign_none : (base : List ℕ) (db : Database) → db.schema ≢ store_schema → StandForNone base db
 foreign_none base db foreign store stands = foreign stands.tables.schema
 
 -- a look is no change
-looked_survives : (base : List ℕ) (change : Change) (row : AuditRow) (May : Store → Type 0) (db : Database) (trees : Trees) → db.schema ≢ store_schema → Leaves (Changes base change row May) db trees
-looked_survives base change row May db trees foreign = (record { schema = store_schema; trees = trees }, refl, λ store stands may. absurd (foreign_none base db foreign store stands))
+looked_survives : (base : List ℕ) (next : Store → Store) (May : Store → Type 0) (db : Database) (trees : Trees) → db.schema ≢ store_schema → Leaves (Changes base next May) db trees
+looked_survives base next May db trees foreign = (record { schema = store_schema; trees = trees }, refl, λ store stands may. absurd (foreign_none base db foreign store stands))
 
-pub look_survives : (base : List ℕ) (change : Change) (row : AuditRow) (May : Store → Type 0) (a b : State) → Spares a b → Survives a b (Leaves (Changes base change row May) a.now)
-look_survives base change row May a b = survives_weaker a b _ _ (λ _ trees foreign. looked_survives base change row May a.now trees foreign)
+pub look_survives : (base : List ℕ) (next : Store → Store) (May : Store → Type 0) (a b : State) → Spares a b → Survives a b (Leaves (Changes base next May) a.now)
+look_survives base next May a b = survives_weaker a b _ _ (λ _ trees foreign. looked_survives base next May a.now trees foreign)
 
 -- ---- what a change makes, where it is known what there is of its id
 
-module _ (base : List ℕ) (change : Change) (row : AuditRow) (old : Option Content) (edits : Option Edits) (number : ℕ) (columns : AuditColumns) (a c : State) (are : audit_values columns ≡ audit_row number row)
-    (edit : (store : Store) → IsOld store.resources change old → AreEdits base store.resources change edits) where
-  written : (before behind : Database) → Writes edits columns before behind → Changes base change row (IsDueOver old change number) before behind
-  written before behind writes store stands it = writes.stands base store change row stands it.due.can (edit store it.was) (are ∙ ap (λ n. audit_row n row) it.due.next)
-
-  pub over_made : Became a c (Writes edits columns) → (store : Store) → HasStore base a store → IsDueOver old change number store → HasStore base c (after change row store)
-  over_made became store has it = record {
-    stands = λ _. written a.now c.now became.changed store (has.stands became.was_open) it;
-    settled = λ _. became.settled;
-  }
-
-  -- the law is the store's: what a crash leaves of an open one is its last commit
-  pub over_lasts : Became a c (Writes edits columns) → ((trees : Trees) → IsTrue c.is_open → c.may_leave trees → trees ≡ c.committed.trees)
-      → (store : Store) → HasStore base a store → IsDueOver old change number store → (trees : Trees) → c.may_leave trees → AreOf base (after change row store) trees
-  over_lasts became law store has it trees left =
-      (c.now, law trees became.is_open left ∙ ap (λ (db : Database). db.trees) (sym became.settled), (over_made became store has it).stands became.is_open)
-
-  pub over_survives : Survives a c (Leaves (Writes edits columns) a.now) → Survives a c (Leaves (Changes base change row (IsDueOver old change number)) a.now)
-  over_survives = survives_weaker a c _ _ (λ _ trees leaves. (leaves.0, leaves.1, written a.now leaves.0 leaves.2))
+pub written : (base : List ℕ) (change : Change) (row : AuditRow) (old : Option Content) (edits : Option Edits) (number : ℕ) (columns : AuditColumns) → audit_values columns ≡ audit_row number row
+    → ((store : Store) → IsOld store.resources change old → AreEdits base store.resources change edits) → (before behind : Database) → Writes edits columns before behind
+    → Changes base (after change row) (IsDueOver old change number) before behind
+written base change row old edits number columns are edit before behind writes store stands it = writes.stands base store change row stands it.due.can (edit store it.was) (are ∙ ap (λ n. audit_row n row) it.due.next)
 
 -- ---- what it makes, once that has been looked up
 
 module _ (base : List ℕ) (change : Change) (row : AuditRow) (old : Option Content) (number : ℕ) (a b c : State)
     (found : HasCleanDisk c → (store : Store) → StandsIn base a store → IsOld store.resources change old × Stays a b × (b.now ≡ a.now)) where
-  pub then_survives : Spares a b → Survives b c (Leaves (Changes base change row (IsDueOver old change number)) b.now)
-      → Survives a c (Leaves (Changes base change row (IsDue change number)) a.now)
-  then_survives = survives_then a b c _ _ _ (λ _ trees foreign. looked_survives base change row (IsDue change number) a.now trees foreign) (λ clean trees leaves. (
+  pub then_survives : Spares a b → Survives b c (Leaves (Changes base (after change row) (IsDueOver old change number)) b.now)
+      → Survives a c (Leaves (Changes base (after change row) (IsDue change number)) a.now)
+  then_survives = survives_then a b c _ _ _ (λ _ trees foreign. looked_survives base (after change row) (IsDue change number) a.now trees foreign) (λ clean trees leaves. (
     leaves.0,
     leaves.1,
     λ store stands due. (let it = found clean store (λ _. stands) in leaves.2 store (subst (λ (db : Database). StandsFor base db store) (sym it.2) stands) (record { due = due; was = it.0 })),

@@ -108,14 +108,6 @@ fault_read base users (Ok x) e is damaged = tt
 fault_read base users (Err f) (failed.Because item) is damaged = subst (IsFillFault base users) (sym is) damaged
 fault_read base users (Err f) failed.NoMemory is damaged = subst (IsFillFault base users) (sym is) tt
 
--- ---- what a crash leaves
-
--- a transaction that fills the database, and its commit
-pub fill_survives : {S : Type 0} (g : Ghosts S) (base users : List ℕ) (old : Held S) (last end : State) → Survives (state g (record old { in_transaction = true })) last (λ _. ⊥) → (HasCleanDisk last → Fills base users (state g old).now last.now)
-    → Survives last end (λ trees. trees ≡ last.now.trees) → Survives (state g old) end (Leaves (Fills base users) (state g old).now)
-fill_survives g base users old last end filled ran commits =
-    survives_then (state g old) last end _ _ _ (λ _ trees none. absurd none) (λ clean trees is. (last.now, is, ran (omega (arith, commits.clean)))) (survives_begin g old last _ filled) commits
-
 -- ---- a new store
 
 -- the tables with the rows of resources are those of each new store of them

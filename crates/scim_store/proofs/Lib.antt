@@ -5,6 +5,7 @@ pub mod OrderLemmas
 pub mod ValueLemmas
 pub mod StandLemmas
 pub mod CommitLemmas
+pub mod SeveralLemmas
 pub mod BeginLemmas
 pub mod NoneLemmas
 pub mod OwnedLemmas

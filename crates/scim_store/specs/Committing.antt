@@ -4,9 +4,8 @@ use Rattle.sqlite.specs.Effect.{Database}
 use Rattle.sqlite.specs.Tree.{Trees}
 use Rattle.sqlite.specs.State.{State}
 use Rattle.scim_cell.specs.Content.{Content}
-use Rattle.scim_audit.specs.declared.audit_rows.AuditRow.{AuditRow}
 use Rattle.scim_shelf.specs.declared.changes.Change.{Change}
-use Rattle.scim_shelf.specs.Stores.{Store, CanKeep, IsOld, after}
+use Rattle.scim_shelf.specs.Stores.{Store, CanKeep, IsOld}
 use Rattle.scim_store_rows.specs.Stands.{StandsFor}
 
 -- If the connection is open, its tables hold the store, and all changes are committed.
@@ -25,10 +24,9 @@ pub record IsDueOver (old : Option Content) (change : Change) (number : ℕ) (st
   pub due : IsDue change number store
   pub was : IsOld store.resources change old
 
--- If the old tables hold a valid store that satisfies `May`, the new tables hold the store after the change,
--- with the audit row `row`.
-abbrev pub Changes : List ℕ → Change → AuditRow → (Store → Type 0) → Database → Database → Type 0
-Changes base change row May old new = (store : Store) → StandsFor base old store → May store → StandsFor base new (after change row store)
+-- If the old tables hold a valid store that satisfies `May`, the new tables hold the store that `next` gives.
+abbrev pub Changes : List ℕ → (Store → Store) → (Store → Type 0) → Database → Database → Type 0
+Changes base next May old new = (store : Store) → StandsFor base old store → May store → StandsFor base new (next store)
 
 -- `trees` are the trees of a database whose tables hold the store.
 abbrev pub AreOf : List ℕ → Store → Trees → Type 0

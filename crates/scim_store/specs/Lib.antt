@@ -1,6 +1,7 @@
 pub mod Beginning
 pub mod Edits
 pub mod Committing
+pub mod Commits
 pub mod Shelves
 pub mod Importing
 pub mod Owners

@@ -4,9 +4,8 @@ use Rattle.sqlite.specs.Effect.{Database}
 use Rattle.sqlite.specs.Tree.{Trees}
 use Rattle.sqlite.specs.State.{State, HasCleanDisk, Survives}
 use Rattle.scim_cell.specs.Content.{Content}
-use Rattle.scim_audit.specs.declared.audit_rows.AuditRow.{AuditRow}
 use Rattle.scim_shelf.specs.declared.changes.Change.{Change}
-use Rattle.scim_shelf.specs.Stores.{Store, CanKeep, IsOld, after}
+use Rattle.scim_shelf.specs.Stores.{Store, CanKeep, IsOld}
 use Rattle.scim_store_tables.specs.Steps.{Leaves}
 use Rattle.scim_store_tables.specs.Tables.{no_schema, old_schema}
 use Rattle.scim_store_tables.specs.declared.versions.Version.{Version}
@@ -33,12 +32,12 @@ MayMake Stands shelf change store = Stands shelf store × CanKeep store change
 abbrev pub MayMakeOver : {H : Type 0} → (H → Store → Type 0) → H → Option Content → Change → Store → Type 0
 MayMakeOver Stands shelf old change store = MayMake Stands shelf change store × IsOld store.resources change old
 
--- A crash leaves a state that a crash before the commit could also leave, or the tables with the change and
--- its audit row. If the commit succeeded and the disk returned what was written, a crash leaves the tables
--- with the change and its audit row. The store before the commit must satisfy `May`.
-pub record CommitsWhole {T E : Type 0} (base : List ℕ) (change : Change) (row : AuditRow) (May : Store → Type 0) (old new : State) (result : Result T E) : Type 0 where
-  pub crash : Survives old new (Leaves (Changes base change row May) old.now)
-  pub durable : HasCleanDisk new → OnOk result ((store : Store) → May store → (trees : Trees) → new.may_leave trees → AreOf base (after change row store) trees)
+-- A crash leaves a state that a crash before the commit could also leave, or the tables of the store that `next`
+-- gives. If the commit succeeded and the disk returned what was written, a crash leaves the tables of that store.
+-- The store before the commit must satisfy `May`.
+pub record CommitsWhole {T E : Type 0} (base : List ℕ) (next : Store → Store) (May : Store → Type 0) (old new : State) (result : Result T E) : Type 0 where
+  pub crash : Survives old new (Leaves (Changes base next May) old.now)
+  pub durable : HasCleanDisk new → OnOk result ((store : Store) → May store → (trees : Trees) → new.may_leave trees → AreOf base (next store) trees)
 
 -- The store of an opened database: an empty store if the database was empty, and otherwise the store that its
 -- tables of version 1 or 2 hold, with valid audit rows.

@@ -3,6 +3,7 @@
 #![tactic(auto)]
 
 mod changes;
+mod commits;
 mod committing;
 mod creation;
 mod damage;
@@ -14,6 +15,7 @@ mod row_owners;
 mod sql_shelf;
 mod transactions;
 
+pub use commits::Commit;
 pub use damage::{holding_rows_are_sound, sound_rows_hold};
 pub use importing::{ImportFault, import};
 pub use sql_shelf::{OpenFault, SqlShelf};

@@ -23,9 +23,11 @@ ghost use Rattle.scim_store_tables.specs.Steps.{Became, Leaves};
 ghost use Rattle.scim_store_tables.specs.Migrating.{Migrates};
 ghost use Rattle.scim_store.specs.Beginning.{no_store, Begins};
 ghost use Rattle.scim_store_rows.specs.Finding.{StandsIn};
+ghost use Rattle.scim_store.specs.Commits.{CanKeepAll, AreOld, MayMakeAll, CommitsSome, after_all};
 ghost use Rattle.scim_store.specs.Shelves.{IsKeptIn, MayMake, MayMakeOver, CommitsWhole, HasOpened, Refuses, LeavesBegun};
 
-use crate::committing::{CommitFault, commit_change, commit_over};
+use crate::commits::Commit;
+use crate::committing::{CommitFault, commit_all, commit_change, commit_over};
 use crate::creation::begin_store;
 use crate::examining::{Examined, examine};
 use scim_audit::AuditRow;
@@ -305,6 +307,38 @@ impl<S: Alter> SqlShelf<S> {
         told(&mut self.failures, read)
     }
 
+    /// Makes these changes and adds their audit rows, in order, in one transaction. The `old` of each commit is
+    /// the user or group that has the id of its change just before it is made, if any; it is ignored for
+    /// `Change::Nothing`. For each `Change::Keep` the caller guarantees what [`Shelf::commit`] asks, just before
+    /// it is made.
+    ///
+    /// Fails with `Device` if the device failed, and with `Full` if fewer audit numbers than rows are left. On
+    /// any error nothing is changed and no row is added.
+    pub fn commit_all(
+        &mut self,
+        alloc: Global,
+        commits: &[Commit<'_>],
+    ) -> Result<(), Failed<ShelfFault>>
+        ensures ok { OnOk result ((store : Store) → ⟦<SqlShelf<S> as Shelf>⟧.stands self.old store
+            → CanKeepAll commits.now store
+            → (⟦<SqlShelf<S> as Shelf>⟧.is_honest self.new → AreOld commits.now store)
+            → ⟦<SqlShelf<S> as Shelf>⟧.stands self.new (after_all commits.now store)) }
+        ensures commits { CommitsSome ⟦<SqlShelf<S> as Shelf>⟧.stands
+            ⟦<SqlShelf<S> as Shelf>⟧.is_honest ⟦<SqlShelf<S> as Shelf>⟧.failures
+            (length commits.now) self.old self.new result }
+        ensures disk { CommitsWhole (base_of self.old) (after_all commits.now)
+            (MayMakeAll ⟦<SqlShelf<S> as Shelf>⟧.stands self.old commits.now)
+            (state S.Store (connection_of self.old)) (state S.Store (connection_of self.new)) result }
+    {
+        let count = commits.len() as u64;
+        if count > LAST_NUMBER - self.rows {
+            return Err(Failed::Because(ShelfFault::Full));
+        }
+        let (connection, base) = (&mut self.connection, self.base.as_str());
+        let done = commit_all(connection, alloc, base, commits, self.rows);
+        told_commit(&mut self.failures, &mut self.rows, count, done)
+    }
+
     /// Returns the connection of the shelf, unchanged.
     pub fn into_connection(self) -> Connection<S>
         ensures connection { result ≡ connection_of self }
@@ -354,22 +388,23 @@ fn told<T>(failures: &mut u64, found: Result<T, Error>) -> Result<T, Failed<Shel
     }
 }
 
-/// Converts the result of a commit to a result of the shelf. Counts the new audit row in `rows`, or a failure
-/// of the device in `failures`.
+/// Converts the result of a call that commits `count` changes to a result of the shelf. Counts the new audit
+/// rows in `rows`, or a failure of the device in `failures`.
 fn told_commit(
     failures: &mut u64,
     rows: &mut u64,
+    count: u64,
     done: Result<(), CommitFault>,
 ) -> Result<(), Failed<ShelfFault>>
-    requires { rows.old < last_number }
-    ensures ok { IfOk result (λ x. (done ≡ Ok x) × (rows.new ≡ rows.old + 1)) }
+    requires { rows.old + count ≤ last_number }
+    ensures ok { IfOk result (λ x. (done ≡ Ok x) × (rows.new ≡ rows.old + count)) }
     ensures err { OnErr result (IsErr done × (rows.new ≡ rows.old)) }
     ensures counts { Counts failures.old failures.new result }
     ensures not_full { result ≢ Err (Failed.Because ShelfFault.Full) }
 {
     match done {
         Ok(()) => {
-            *rows += 1;
+            *rows += count;
             Ok(())
         }
         Err(fault) => Err(fault_of(failures, &fault)),
@@ -489,16 +524,16 @@ impl<S: Alter> Shelf for SqlShelf<S> {
         ensures commits { Commits ⟦<SqlShelf<S> as Shelf>⟧.stands
             ⟦<SqlShelf<S> as Shelf>⟧.is_honest ⟦<SqlShelf<S> as Shelf>⟧.failures
             self.old self.new result }
-        ensures disk { CommitsWhole (base_of self.old) change row
+        ensures disk { CommitsWhole (base_of self.old) (after change row)
             (MayMake ⟦<SqlShelf<S> as Shelf>⟧.stands self.old change)
             (state S.Store (connection_of self.old)) (state S.Store (connection_of self.new)) result }
     {
         if self.rows >= LAST_NUMBER {
             return Err(Failed::Because(ShelfFault::Full));
         }
-        let (connection, base, number) = (&mut self.connection, self.base.as_str(), self.rows + 1);
-        let done = commit_change(connection, alloc, base, &change, &row, number);
-        told_commit(&mut self.failures, &mut self.rows, done)
+        let (connection, base) = (&mut self.connection, self.base.as_str());
+        let done = commit_change(connection, alloc, base, &change, &row, self.rows);
+        told_commit(&mut self.failures, &mut self.rows, 1, done)
     }
 
     fn commit_over(
@@ -516,7 +551,7 @@ impl<S: Alter> Shelf for SqlShelf<S> {
         ensures commits { Commits ⟦<SqlShelf<S> as Shelf>⟧.stands
             ⟦<SqlShelf<S> as Shelf>⟧.is_honest ⟦<SqlShelf<S> as Shelf>⟧.failures
             self.old self.new result }
-        ensures disk { CommitsWhole (base_of self.old) change.now row.now
+        ensures disk { CommitsWhole (base_of self.old) (after change.now row.now)
             (MayMakeOver ⟦<SqlShelf<S> as Shelf>⟧.stands self.old (option_copied old.entry)
             change.now)
             (state S.Store (connection_of self.old)) (state S.Store (connection_of self.new)) result }
@@ -524,9 +559,9 @@ impl<S: Alter> Shelf for SqlShelf<S> {
         if self.rows >= LAST_NUMBER {
             return Err(Failed::Because(ShelfFault::Full));
         }
-        let (connection, base, number) = (&mut self.connection, self.base.as_str(), self.rows + 1);
-        let done = commit_over(connection, alloc, base, old, change, row, number);
-        told_commit(&mut self.failures, &mut self.rows, done)
+        let (connection, base) = (&mut self.connection, self.base.as_str());
+        let done = commit_over(connection, alloc, base, old, change, row, self.rows);
+        told_commit(&mut self.failures, &mut self.rows, 1, done)
     }
 
     fn failures(&self) -> u64 {

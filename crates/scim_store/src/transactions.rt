@@ -1,11 +1,9 @@
-//! Writes a change and its audit row in one transaction.
+//! Writes a change and its audit row inside a transaction.
 
-ghost use Rattle.std.specs.Prelude.{◌≡◌, ◌≤◌, ◌∷◌, ◌++◌, false, OnOk, OnErr};
-ghost use Rattle.sqlite.specs.State.{HasCleanDisk, Survives};
-ghost use Rattle.sqlite.specs.Held.{state};
+ghost use Rattle.std.specs.Prelude.{◌≡◌, ◌≤◌, ◌∷◌, ◌++◌};
 ghost use Rattle.scim_store_tables.specs.Audit.{last_number, audit_values};
 ghost use Rattle.scim_store_tables.specs.Lists.{Lists, Are, without, has_text, resource_values};
-ghost use Rattle.scim_store_tables.specs.Steps.{DoesIn, Became, Undoes, Leaves};
+ghost use Rattle.scim_store_tables.specs.Steps.{DoesIn};
 ghost use Rattle.scim_store.specs.Edits.{is_name, is_member, is_secret, rows_of_names, rows_of_members, rows_of_secret, rows_of_document, edited, edited_by, with_row, Writes};
 
 use crate::edits::{Edits, SecretEdit};
@@ -16,7 +14,7 @@ use scim_store_tables::{
     insert_member, insert_name, insert_resource, insert_secret, update_resource,
 };
 use scim_value::UniqueName;
-use sqlite::{Alter, Connection, Error, ErrorCode, Transaction};
+use sqlite::{Alter, Error, ErrorCode, Transaction};
 
 /// Deletes the rows of these unique names.
 fn delete_names<S: Alter>(tx: &mut Transaction<'_, S>, names: &[UniqueName]) -> Result<(), Error>
@@ -265,8 +263,13 @@ fn edit_if_any<S: Alter>(tx: &mut Transaction<'_, S>, edits: &Option<Edits>) -> 
     }
 }
 
-/// Makes the edits, if any, and adds the audit row.
-fn write_rows<S: Alter>(
+/// Makes the edits of a change, if any, and adds its audit row. The row's number and moment must be at most
+/// 2^63 - 1.
+///
+/// Fails with a constraint error if the key of a row to insert is in use, with `DatabaseCorrupt` if several
+/// rows have the id of the resource, or with another error of the database if the disk failed or memory ran
+/// out.
+pub(crate) fn write_rows<S: Alter>(
     tx: &mut Transaction<'_, S>,
     edits: &Option<Edits>,
     columns: &AuditColumns<'_>,
@@ -278,35 +281,4 @@ fn write_rows<S: Alter>(
     edit_if_any(tx, edits)?;
     insert_audit(tx, columns)?;
     Ok(())
-}
-
-/// Makes the edits of a change, if any, and adds its audit row, in one transaction. The row's number and
-/// moment must be at most 2^63 - 1.
-///
-/// Fails with a constraint error if the key of a row to insert is in use, with `DatabaseCorrupt` if several
-/// rows have the id of the resource, or with another error of the database if the disk failed or memory ran
-/// out. Then nothing is changed, or the connection is closed.
-pub(crate) fn write_change<S: Alter>(
-    conn: &mut Connection<S>,
-    edits: &Option<Edits>,
-    columns: &AuditColumns<'_>,
-) -> Result<(), Error>
-    requires idle { conn.old.in_transaction ≡ false }
-    requires number { columns.now.number ≤ last_number }
-    requires moment { columns.now.moment ≤ last_number }
-    ensures idle { conn.new.in_transaction ≡ false }
-    ensures made { HasCleanDisk (state S.Store conn.new)
-        → OnOk result (Became (state S.Store conn.old) (state S.Store conn.new)
-        (Writes edits.now columns.now)) }
-    ensures undone { HasCleanDisk (state S.Store conn.new)
-        → OnErr result (Undoes (state S.Store conn.old) (state S.Store conn.new)) }
-
-    // A crash leaves a state that a crash before the call could also leave, or the tables with the change and
-    // its audit row.
-    ensures crash { Survives (state S.Store conn.old) (state S.Store conn.new)
-        (Leaves (Writes edits.now columns.now) (state S.Store conn.old).now) }
-{
-    let mut tx = conn.transaction();
-    write_rows(&mut tx, edits, columns)?;
-    tx.commit()
 }

@@ -1,6 +1,7 @@
 use Rattle.std.proofs.Common.{◌+◌}
 use Rattle.std.specs.Option.{option_copied}
 use Rattle.sqlite.specs.Held.{state}
+use Rattle.scim_shelf.specs.Stores.{after}
 use Rattle.scim_store.specs.Committing.{IsDueOver}
 use Rattle.scim_store.proofs.ShelfLemmas.{told_ok, whole_left, due_of}
 use Rattle.scim_store.proofs.sql_shelf.SqlShelfShelf.commit_over.Goals as goal
@@ -11,5 +12,5 @@ returns-clause-disk g c =
     let rows = c.args.self.now.rows in
     let old = state g.S.Store c.args.self.now.connection in
     let new = state g.S.Store c.commit_over-done.new.conn in
-    whole_left base c.args.change.now c.args.row.now (IsDueOver (option_copied c.args.old) c.args.change.now (rows + 1)) _ old new (λ store may. record { due = due_of base old rows c.args.change.now store may.0.0 may.0.1; was = may.1 }) (λ store may. may.0.0.stored) c.told_commit.result
+    whole_left base (after c.args.change.now c.args.row.now) (IsDueOver (option_copied c.args.old) c.args.change.now (rows + 1)) _ old new (λ store may. record { due = due_of base old rows c.args.change.now store may.0.0 may.0.1; was = may.1 }) (λ store may. may.0.0.stored) c.told_commit.result
     (rw c.as_str-base.ensures at c.commit_over-done.ensures.crash) (λ clean. told_ok _ _ c.commit_over-done.result c.told_commit.result c.told_commit.ensures.ok (rw c.as_str-base.ensures at (c.commit_over-done.ensures.durable clean)))
