@@ -123,7 +123,8 @@ made_text : (base id text : List ℕ) (name : Option (List ℕ)) → own_passes 
 made_text base id text None e = sym (or-false _) ∙ e
 made_text base id text (Some name) e = sym (or-false _) ∙ e
 
-swapped : (a b c : Bool) → (b || (a || c)) ≡ true → (a || (b || c)) ≡ true
+-- two of three tests the other way round
+pub swapped : (a b c : Bool) → (b || (a || c)) ≡ true → (a || (b || c)) ≡ true
 swapped true b c e = refl
 swapped false b c e = e
 

@@ -6,7 +6,6 @@ use Rattle.std.specs.List.Sorted.{IsSorted, IsStrictlySortedBy}
 use Rattle.std.specs.Ordering.{nat_cmp}
 use Rattle.std.specs.Cmp.Lexicographic.{slice_cmp}
 use Rattle.std.proofs.lemmas.Bool.{cases_Bool}
-use Rattle.std.proofs.lemmas.List.{append-nil}
 use Rattle.std.proofs.lemmas.List.Elements.{filter-append}
 use Rattle.std.proofs.lemmas.List.Kept.{IsStrictlySortedBy-filter}
 use Rattle.scim_schema.specs.declared.Kind.{Kind}
@@ -27,9 +26,6 @@ use Rattle.scim_search.specs.PossibleIds.{has_id}
 use Rattle.scim_search.proofs.StoreViews.{made_ascends, made_views, strict_sorted}
 
 -- ---- what a pager takes
-
-pub takes_none : (pager : Pager) → TakesParts pager [] pager
-takes_none pager parts taken = rw (append-nil parts) taken
 
 pub takes_both : (first middle last : Pager) (ps qs : List Content) → TakesParts first ps middle → TakesParts middle qs last → TakesParts first (ps ++ qs) last
 takes_both first middle last ps qs one other parts taken =

@@ -1,6 +1,6 @@
 -- The ids that are found by a text have those of all resources in which the text may be seen.
-use Rattle.std.proofs.Common.{◌≡◌, refl, sym, ◌∙◌, ap, subst, ℕ, zero, suc, ◌+◌, ◌<◌, length, take, get_or, Bool, true, false, ◌||◌, cond, List, [], ◌∷◌, filter, slice_index_or, inl, inr, arith, true≢false}
-use Rattle.std.specs.Prelude.{All, AllPairs, Option, None, Some, find}
+use Rattle.std.proofs.Common.{◌≡◌, refl, sym, ◌∙◌, ap, subst, ℕ, zero, suc, ◌+◌, ◌<◌, length, take, get_or, Bool, true, false, ◌||◌, cond, List, [], ◌∷◌, filter, slice_index_or, inl, inr, arith, true≢false, ◌++◌}
+use Rattle.std.specs.Prelude.{not, All, AllPairs, Option, None, Some, find}
 use Rattle.std.specs.List.{list_any, FoldsTo}
 use Rattle.std.specs.BTreeSet.{BTreeSet}
 use Rattle.std.specs.Ordering.{nat_cmp, is_eq}
@@ -17,7 +17,6 @@ use Rattle.scim_schema.specs.declared.Kind.TheVariants.{User, Group}
 use Rattle.scim_schema.specs.contracts.Kind.{the_type as the_kind}
 use Rattle.scim_schema.specs.declared.Attribute.TheVariants.{Id}
 use Rattle.scim_schema.specs.declared.Leaf.{Leaf}
-use Rattle.scim_schema.specs.Characteristics.{is_case_exact}
 use Rattle.scim_schema.specs.IndexedLeaves.{indexed_leaves}
 use Rattle.scim_schema.specs.UniqueLeaves.{unique_leaves}
 use Rattle.scim_schema.specs.Units.{is_same_leaf, simple}
@@ -30,9 +29,9 @@ use Rattle.scim_cell.proofs.Facts.{IsIdText-id_text, id_text-injective}
 use Rattle.scim_value.specs.Members.{is_text, lists}
 use Rattle.scim_value.specs.Resource.{IsResource, HasBase}
 use Rattle.scim_value.specs.Uniqueness.{Name, AreApart}
-use Rattle.scim_filter.specs.Relation.{cased}
 use Rattle.scim_filter_texts.specs.declared.needs.NeededText.{NeededText}
 use Rattle.scim_filter_texts.specs.Needed as needed
+use Rattle.scim_filter_texts.proofs.Facts.{either}
 use Rattle.scim_view.specs.View.{Viewer}
 use Rattle.scim_view.specs.Groups.{with_groups}
 use Rattle.scim_shelf.specs.declared.leaf_texts.LeafText.{LeafText}
@@ -40,13 +39,14 @@ use Rattle.scim_shelf.specs.Members.{is_value_of, value_in}
 use Rattle.scim_shelf.specs.Stores.{Store, IsStore, has_name, has_some_text, is_at, is_group_with, those_at, those_found, with_some_text}
 use Rattle.scim_search.specs.declared.possible_ids.IdGatherer.{IdGatherer}
 use Rattle.scim_search.specs.declared.possible_ids.MemberGatherer.{MemberGatherer}
-use Rattle.scim_search.specs.PossibleIds.{group_leaf, group_leaves, has_id, own_leaves, possible_leaves, Gathers, GathersSome, HasAll, HasFound, IsKept, TakesId, TakesMembers}
-use Rattle.scim_search.proofs.GroupTextLemmas.{is_text_of, seen_group}
+use Rattle.scim_search.specs.PossibleIds.{group_leaf, group_leaves, has_id, indexed_of, is_indexed, others_of, own_leaves, possible_leaves, Gathers, GathersSome, HasAll, HasFound, IsKept, TakesId, TakesMembers}
+use Rattle.scim_search.specs.Walks.{AreCompared}
+use Rattle.scim_search.proofs.GroupTextLemmas.{is_text_of, seen_group, swapped}
 use Rattle.scim_search.proofs.LookupLemmas.{PassesOne, one_has_name, seen_id}
 use Rattle.scim_search.proofs.NameLemmas.{NamesSeen, named, names_seen}
-use Rattle.scim_search.proofs.SomeTextLemmas.{one_of_leaves}
+use Rattle.scim_search.proofs.SomeTextLemmas.{one_of_leaves, stored_some}
 use Rattle.scim_search.proofs.StoreViews.{suffice}
-use Rattle.scim_search.proofs.TextLemmas.{IsTextLeaf, indexed_text_leaves, is_equal, stored_text}
+use Rattle.scim_search.proofs.TextLemmas.{is_equal}
 use Rattle.scim_search.proofs.WalkLemmas.{groups_found, groups_list}
 
 -- ---- the resources of a kind
@@ -141,22 +141,18 @@ each_passing test P (c ∷ cs) all =
       | inr n ↦ (let own : All P (filter test cs) = rw n at all in All-cons Each c cs (λ h. absurd (true≢false (sym h ∙ n))) (each_passing test P cs own))
     ]
 
-pub by_indexed : (base : List ℕ) (store : Store) → IsStore base store → (kind : Kind) (leaf : Leaf) (text : List ℕ) (own : LeafText) (first last : IdGatherer)
-    → list_any (is_same_leaf leaf) (indexed_leaves kind) ≡ true → own.leaf ≡ leaf → own.text.now ≡ cased (is_case_exact leaf) text
-    → FoldsTo TakesId first (with_some_text kind (own ∷ []) store.resources) last
-    → Gathers kind store.resources leaf text first.ids last.ids
-by_indexed base store is kind leaf text own first last indexed same compared folds =
+pub by_indexed : (base : List ℕ) (store : Store) → IsStore base store → (kind : Kind) (needs : List NeededText) (texts : List LeafText) (first last : IdGatherer)
+    → needed.AreAt (indexed_leaves kind) needs → AreCompared needs texts → FoldsTo TakesId first (with_some_text kind texts store.resources) last
+    → GathersSome kind store.resources needs first.ids last.ids
+by_indexed base store is kind needs texts first last indexed compared folds =
     let cs = store.resources in
-    let took = took_ids first (with_some_text kind (own ∷ []) cs) last folds in
-    let is_text : IsTextLeaf kind leaf = one_of_leaves (IsTextLeaf kind) leaf (indexed_leaves kind) (indexed_text_leaves kind) indexed in
-    let each = each_passing (has_some_text (own ∷ [])) (λ d. has_id last.ids d.id ≡ true) (of_kind kind cs) took.1 in
+    let took = took_ids first (with_some_text kind texts cs) last folds in
+    let each = each_passing (has_some_text texts) (λ d. has_id last.ids d.id ≡ true) (of_kind kind cs) took.1 in
     record {
       kept = λ id valid has. took.0 id has;
       all = λ v k d lt shown.
-          let c_own = all_own base store is kind k d lt in
-          let c : Content = slice_index_or (of_kind kind cs) k d in
-          let stored = stored_text kind leaf text is_text v (of_kind Group cs) c c_own.kind_is c_own.sound.part shown in
-          each k d lt (rw (same, compared) (or-false _ ∙ stored));
+          let own = all_own base store is kind k d lt in
+          each k d lt (stored_some kind needs texts indexed compared v (of_kind Group cs) _ own.kind_is own.sound.part shown);
     }
 
 -- ---- by a group
@@ -232,18 +228,60 @@ by_members base store is text id valid same first last folds = record {
 pub by_no_text : (kind : Kind) (cs : List Content) (ids : BTreeSet (List ℕ)) → GathersSome kind cs [] ids ids
 by_no_text kind cs ids = record { kept = λ id valid has. has; all = λ v k d lt none. cc }
 
-pub by_texts : (base : List ℕ) (store : Store) → IsStore base store → (kind : Kind) (t : NeededText) (ts : List NeededText) (old mid new : BTreeSet (List ℕ))
-    → Gathers kind store.resources t.leaf t.text.now old mid → GathersSome kind store.resources ts mid new → GathersSome kind store.resources (t ∷ ts) old new
-by_texts base store is kind t ts old mid new first rest = record {
+-- by some texts and then by others
+pub by_both : (base : List ℕ) (store : Store) → IsStore base store → (kind : Kind) (ts us : List NeededText) (old mid new : BTreeSet (List ℕ))
+    → GathersSome kind store.resources ts old mid → GathersSome kind store.resources us mid new → GathersSome kind store.resources (ts ++ us) old new
+by_both base store is kind ts us old mid new first rest = record {
   kept = λ id valid has. rest.kept id valid (first.kept id valid has);
   all = λ v k d lt some.
       let own = all_own base store is kind k d lt in
       let c : Content = slice_index_or (of_kind kind store.resources) k d in
-      elim (cases_Bool (needed.has_text t.leaf t.text.now (rows (with_groups v (of_kind Group store.resources) c)))) [
+      let shown = rows (with_groups v (of_kind Group store.resources) c) in
+      let either_way = sym (list_any-append (λ (t : NeededText). needed.has_text t.leaf t.text.now shown) ts us) ∙ some in
+      elim (cases_Bool (needed.has_some_text ts shown)) [
         | inl yes' ↦ rest.kept c.id own.sound.identified.0 (first.all v k d lt yes')
-        | inr no' ↦ rest.all v k d lt (rw no' at some)
+        | inr no' ↦ rest.all v k d lt (rw no' at either_way)
       ];
 }
+
+-- if no texts are compared, none are needed
+pub none_compared : (needs : List NeededText) → AreCompared needs [] → needs ≡ []
+none_compared [] same = refl
+none_compared (t ∷ ts) same = cc
+
+-- by one text that isn't at an indexed leaf
+pub by_other : (kind : Kind) (cs : List Content) (t : NeededText) (old new : BTreeSet (List ℕ)) → is_indexed kind t ≡ false → Gathers kind cs t.leaf t.text.now old new
+    → GathersSome kind cs (others_of kind (t ∷ [])) old new
+by_other kind cs t old new other one =
+    let own : others_of kind (t ∷ []) ≡ t ∷ [] = rw other refl in
+    subst (λ (ts : List NeededText). GathersSome kind cs ts old new) (sym own) (record { kept = one.kept; all = λ v k d lt some. one.all v k d lt (sym (or-false _) ∙ some) })
+
+pub by_no_other : (kind : Kind) (cs : List Content) (t : NeededText) (ids : BTreeSet (List ℕ)) → is_indexed kind t ≡ true → GathersSome kind cs (others_of kind (t ∷ [])) ids ids
+by_no_other kind cs t ids indexed =
+    let none : others_of kind (t ∷ []) ≡ [] = rw indexed refl in
+    subst (λ (ts : List NeededText). GathersSome kind cs ts ids ids) (sym none) (by_no_text kind cs ids)
+
+-- what one of a list passes, one of those passes that pass another test, or one of the others
+split_any : (p q : NeededText → Bool) (ts : List NeededText) → list_any p ts ≡ true → (list_any p (filter (λ t. not (q t)) ts) || list_any p (filter q ts)) ≡ true
+split_any p q [] e = e
+split_any p q (t ∷ ts) e =
+    let others = list_any p (filter (λ (u : NeededText). not (q u)) ts) in
+    let those = list_any p (filter q ts) in
+    let some : (p t || (others || those)) ≡ true = either (p t) (list_any p ts) (p t) (others || those) (λ h. h) (split_any p q ts) e in
+    elim (cases_Bool (q t)) [
+      | inl yes' ↦ rw yes' (swapped others (p t) those some)
+      | inr no' ↦ rw no' (or_assoc (p t) others those ∙ some)
+    ]
+
+-- by all texts: by those that aren't at indexed leaves, and then by those that are
+pub by_all : (base : List ℕ) (store : Store) → IsStore base store → (kind : Kind) (ts : List NeededText) (old mid new : BTreeSet (List ℕ))
+    → GathersSome kind store.resources (others_of kind ts) old mid → GathersSome kind store.resources (indexed_of kind ts) mid new
+    → HasAll kind store.resources (λ p. needed.has_some_text ts (rows p)) new
+by_all base store is kind ts old mid new others indexed v k d lt some =
+    let both = by_both base store is kind (others_of kind ts) (indexed_of kind ts) old mid new others indexed in
+    let shown = rows (with_groups v (of_kind Group store.resources) (slice_index_or (of_kind kind store.resources) k d)) in
+    let has : NeededText → Bool = λ t. needed.has_text t.leaf t.text.now shown in
+    both.all v k d lt (list_any-append has (others_of kind ts) (indexed_of kind ts) ∙ split_any has (is_indexed kind) ts some)
 
 -- ---- the members of a group
 

@@ -1,5 +1,5 @@
 -- The ids of the resources that can match a query, found by texts that each match has.
-use Rattle.std.specs.Prelude.{◌≡◌, ℕ, Bool, true, ◌||◌, cond, List, [], ◌∷◌, ◌++◌, All, Option, IfSome}
+use Rattle.std.specs.Prelude.{◌≡◌, ℕ, Bool, true, ◌||◌, cond, List, [], ◌∷◌, ◌++◌, filter, not, All, Option, IfSome}
 use Rattle.std.specs.BTreeSet.{BTreeSet, contains}
 use Rattle.std.specs.Ordering.{nat_cmp, is_eq}
 use Rattle.std.specs.Cmp.Lexicographic.{slice_cmp}
@@ -16,7 +16,7 @@ use Rattle.scim_cell.specs.Ids.{IsId}
 use Rattle.scim_cell.specs.Kinds.{of_kind}
 use Rattle.scim_cell.specs.Rows.{rows}
 use Rattle.scim_filter_texts.specs.declared.needs.NeededText.{NeededText}
-use Rattle.scim_filter_texts.specs.Needed.{has_some_text, has_text}
+use Rattle.scim_filter_texts.specs.Needed.{has_some_text, has_text, is_at}
 use Rattle.scim_value.specs.Members.{lists}
 use Rattle.scim_view.specs.View.{Viewer}
 use Rattle.scim_view.specs.Groups.{with_groups}
@@ -59,6 +59,18 @@ own_leaves kind = simple Id ∷ (unique_leaves kind ++ indexed_leaves kind)
 -- the leaves by whose texts resources of the kind are looked up
 abbrev pub possible_leaves : Kind → List Leaf
 possible_leaves kind = group_leaves kind ++ own_leaves kind
+
+-- whether the leaf of the text is indexed for the kind
+abbrev pub is_indexed : Kind → NeededText → Bool
+is_indexed kind t = is_at (indexed_leaves kind) t
+
+-- the texts at indexed leaves
+abbrev pub indexed_of : Kind → List NeededText → List NeededText
+indexed_of kind texts = filter (is_indexed kind) texts
+
+-- the texts at other leaves
+abbrev pub others_of : Kind → List NeededText → List NeededText
+others_of kind texts = filter (λ t. not (is_indexed kind t)) texts
 
 -- the set has the id of each resource of the kind in which a viewer, with the groups of the store, sees what
 -- passes the test

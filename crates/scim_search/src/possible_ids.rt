@@ -1,8 +1,7 @@
 //! The ids of the resources that can match a query, found by texts that each match has.
-ghost use Rattle.std.specs.Prelude.{◌≡◌, ◌||◌, ◌++◌, true, [], ℕ, List, IfOk, IfSome, OnOk};
+ghost use Rattle.std.specs.Prelude.{◌≡◌, ◌||◌, ◌++◌, ◌∷◌, true, [], ℕ, List, IfOk, IfSome, OnOk};
 ghost use Rattle.std.specs.List.{list_any};
 ghost use Rattle.scim_schema.specs.declared.Kind.{Kind};
-ghost use Rattle.scim_schema.specs.IndexedLeaves as indexed;
 ghost use Rattle.scim_schema.specs.UniqueLeaves as unique;
 ghost use Rattle.scim_schema.specs.Units.{is_same_leaf};
 ghost use Rattle.scim_cell.specs.Ids.{IsId, id_text};
@@ -14,6 +13,7 @@ ghost use Rattle.scim_shelf.specs.Shelves.{IsReadFrom, OnlyReads};
 ghost use Rattle.scim_view.specs.code.Index.{is_found};
 ghost use Rattle.scim_view.specs.code.Memberships.{names_id};
 ghost use Rattle.scim_search.specs.PossibleIds as spec;
+ghost use Rattle.scim_search.specs.Walks.{AreCompared};
 
 use crate::lookups::known_name;
 use scim_cell::{Atom, Id, Row};
@@ -147,27 +147,61 @@ fn with_owner<S: Shelf>(
     Ok(with_found(owner, ids)?)
 }
 
-/// Adds the ids of the resources of the kind that have the text at the indexed leaf.
+/// Appends the text, as comparisons use it, if it is at an indexed leaf of the kind.
+fn push_if_indexed<'t>(
+    kind: Kind,
+    needed: NeededText<'t>,
+    indexed: &mut Vec<LeafText<'t>>,
+) -> Result<(), NoMemory>
+    ensures { OnOk result ((texts : List _) → AreCompared texts indexed.old.items
+        → AreCompared (texts ++ spec.indexed_of kind (needed.entry ∷ [])) indexed.new.items) }
+{
+    if !is_among(needed.leaf, indexed_leaves(kind)) {
+        return Ok(());
+    }
+    let leaf = needed.leaf;
+    let text = compared_text(leaf, needed.text);
+    push(indexed, LeafText { leaf, text })
+}
+
+/// Returns those of the texts that are at indexed leaves of the kind, as comparisons use them, in the same order.
+fn indexed_texts<'t>(
+    alloc: Global,
+    kind: Kind,
+    texts: &[NeededText<'t>],
+) -> Result<Vec<LeafText<'t>>, NoMemory>
+    ensures { IfOk result (λ indexed.
+        AreCompared (spec.indexed_of kind texts.now) indexed.items) }
+{
+    let mut indexed = Vec::new(alloc);
+    for needed in texts {
+        push_if_indexed(kind, *needed, &mut indexed)?;
+    }
+    Ok(indexed)
+}
+
+/// Adds the ids of the resources of the kind that have one of the texts that are at indexed leaves. A shelf without an
+/// index reads all resources of the kind for this, once, if there is such a text.
 ///
 /// Fails with the errors of the shelf.
 fn with_holders<S: Shelf>(
     alloc: Global,
     shelf: &mut S,
     kind: Kind,
-    needed: NeededText<'_>,
+    texts: &[NeededText<'_>],
     ids: BTreeSet<Id>,
 ) -> Result<BTreeSet<Id>, Failed<ShelfFault>>
-    requires { is_at (indexed.indexed_leaves kind) needed ≡ true }
     ensures ids { IsReadFrom S.stands S.is_honest shelf.old shelf.new result (λ store new.
-        spec.Gathers kind store.resources needed.entry.leaf needed.entry.text.now ids new) }
+        spec.GathersSome kind store.resources (spec.indexed_of kind texts.now) ids new) }
     ensures read { OnlyReads S.stands S.is_honest S.failures shelf.old shelf.new result }
 {
+    let own = indexed_texts(alloc, kind, texts)?;
+    let indexed = own.as_slice();
+    if indexed.is_empty() {
+        return Ok(ids);
+    }
     let mut holders = IdGatherer { ids };
-    let own = LeafText {
-        leaf: needed.leaf,
-        text: compared_text(needed.leaf, needed.text),
-    };
-    shelf.each_of(alloc, kind, &[own], &mut holders)?;
+    shelf.each_of(alloc, kind, indexed, &mut holders)?;
     Ok(holders.ids)
 }
 
@@ -178,7 +212,8 @@ fn is_among(leaf: Leaf, leaves: &[Leaf]) -> bool
     leaves.contains(&leaf)
 }
 
-/// Adds the ids of the resources of the kind in which a client may see the text at its leaf.
+/// Adds the ids of the resources of the kind in which a client may see the text at its leaf, unless this is an indexed
+/// leaf.
 ///
 /// Fails with the errors of the shelf.
 fn with_text<S: Shelf>(
@@ -190,23 +225,24 @@ fn with_text<S: Shelf>(
 ) -> Result<BTreeSet<Id>, Failed<ShelfFault>>
     requires { is_at (spec.possible_leaves kind) needed ≡ true }
     ensures ids { IsReadFrom S.stands S.is_honest shelf.old shelf.new result (λ store new.
-        spec.Gathers kind store.resources needed.entry.leaf needed.entry.text.now ids new) }
+        spec.GathersSome kind store.resources
+        (spec.others_of kind (needed.entry ∷ [])) ids new) }
     ensures read { OnlyReads S.stands S.is_honest S.failures shelf.old shelf.new result }
 {
+    if is_among(needed.leaf, indexed_leaves(kind)) {
+        return Ok(ids);
+    }
     if needed.leaf == Leaf::simple(Attribute::Id) {
         return Ok(with_id_text(needed.text.as_str(), ids)?);
     }
     if is_among(needed.leaf, unique_leaves(kind)) {
         return with_owner(alloc, shelf, kind, needed, ids);
     }
-    if is_among(needed.leaf, indexed_leaves(kind)) {
-        return with_holders(alloc, shelf, kind, needed, ids);
-    }
     with_members(alloc, shelf, needed.text.as_str(), ids)
 }
 
-/// Adds the ids of the resources of the kind in which a client may see one of the texts at its leaf. Recurses once
-/// per text, so at most some hundred times: a filter has at most 4,096 bytes.
+/// Adds the ids of the resources of the kind in which a client may see one of the texts that aren't at indexed leaves.
+/// Recurses once per text, so at most some hundred times: a filter has at most 4,096 bytes.
 ///
 /// Fails with the errors of the shelf.
 fn with_texts<S: Shelf>(
@@ -218,7 +254,7 @@ fn with_texts<S: Shelf>(
 ) -> Result<BTreeSet<Id>, Failed<ShelfFault>>
     requires { AreAt (spec.possible_leaves kind) texts.now }
     ensures ids { IsReadFrom S.stands S.is_honest shelf.old shelf.new result (λ store new.
-        spec.GathersSome kind store.resources texts.now ids new) }
+        spec.GathersSome kind store.resources (spec.others_of kind texts.now) ids new) }
     ensures read { OnlyReads S.stands S.is_honest S.failures shelf.old shelf.new result }
 {
     match texts {
@@ -246,7 +282,8 @@ pub(crate) fn possible_ids<S: Shelf>(
         spec.HasAll kind store.resources (λ p. has_some_text texts.now (rows p)) ids) }
     ensures read { OnlyReads S.stands S.is_honest S.failures shelf.old shelf.new result }
 {
-    with_texts(alloc, shelf, kind, texts, BTreeSet::new(alloc))
+    let ids = with_texts(alloc, shelf, kind, texts, BTreeSet::new(alloc))?;
+    with_holders(alloc, shelf, kind, texts, ids)
 }
 
 /// Appends the leaves.
