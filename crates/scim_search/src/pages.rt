@@ -45,10 +45,11 @@ fn page_unnamed<S: Shelf>(
 /// Returns the page of the client's query over the client's view of the resources of a kind (RFC 7644 section
 /// 3.4.2), with each item projected to the attributes that the query wants. If the query requires an id or a unique
 /// name, only the resource with that id or name and the groups that list it are read. Otherwise, if each match must
-/// have one of some texts at indexed leaves, only the resources of the kind that have one of these texts are
-/// searched; if it must have one of some texts that are ids, unique names, texts at indexed leaves or ids of groups,
-/// only the resources that these lead to; and else all resources of the kind. If the query has no filter and no sort
-/// key, and the client sees all resources of the kind, only the items of the page are read.
+/// have one of some texts at indexed leaves, only the resources of the kind that have one of these texts are searched.
+/// If each match must have one of some ids, unique names and such texts, or be in one of some groups, only the
+/// resources that are found by these, these groups, and the groups that list the resources are read. Else all
+/// resources of the kind are searched. If the query has no filter and no sort key, and the client sees all resources of
+/// the kind, only the items of the page are read.
 ///
 /// Fails with the errors of the shelf, and with `NoMemory`.
 pub fn page_of_query<S: Shelf>(

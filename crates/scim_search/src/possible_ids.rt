@@ -339,6 +339,9 @@ pub(crate) fn possible_texts(
     ensures leaves { IfOk result (λ o. IfSome o (λ texts.
         AreAt (spec.possible_leaves kind) texts.items)) }
 {
+    if query.filter.is_none() {
+        return Ok(None);
+    }
     let own = own_leaves(alloc, kind)?;
     if let Some(texts) = query.needed_texts(alloc, own.as_slice())? {
         return Ok(Some(texts));
