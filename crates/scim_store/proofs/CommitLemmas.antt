@@ -1,5 +1,5 @@
 -- What a commit leaves of a store.
-use Rattle.std.proofs.Common.{◌≡◌, ◌≢◌, IsTrue, true, ◌∙◌, sym, subst, refl, ap, ℕ, List, Option, arith}
+use Rattle.std.proofs.Common.{◌≡◌, ◌≢◌, true, ◌∙◌, sym, subst, refl, ap, ℕ, List, Option, arith}
 use Rattle.sqlite.specs.Effect.{Database}
 use Rattle.sqlite.specs.State.{State, HasCleanDisk, Survives}
 use Rattle.sqlite.specs.Tree.{Trees}
@@ -15,11 +15,11 @@ use Rattle.scim_store_tables.specs.Audit.{audit_values}
 use Rattle.scim_store_tables.specs.declared.audit.AuditColumns.{AuditColumns}
 use Rattle.scim_store_tables.specs.Tables.{store_schema}
 use Rattle.scim_store_tables.specs.Reading.{Spares}
-use Rattle.scim_store_tables.specs.Steps.{Became, Leaves}
+use Rattle.scim_store_tables.specs.Steps.{Leaves}
 use Rattle.scim_store.specs.declared.edits.Edits.{Edits}
 use Rattle.scim_store_rows.specs.Audit.{audit_row}
 use Rattle.scim_store.specs.Edits.{AreEdits, Writes}
-use Rattle.scim_store.specs.Committing.{HasStore, AreOf, IsDue, IsDueOver, Stays, Changes, StandForNone}
+use Rattle.scim_store.specs.Committing.{IsDue, IsDueOver, Stays, Changes, StandForNone}
 use Rattle.scim_store_rows.specs.Finding.{StandsIn}
 use Rattle.scim_store_rows.specs.Stands.{StandsFor}
 

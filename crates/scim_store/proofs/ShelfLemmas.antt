@@ -8,11 +8,10 @@ use Rattle.sqlite.specs.Tree.{Trees}
 use Rattle.sqlite.specs.View.{doubt}
 use Rattle.sqlite.proofs.StateLemmas.{survives_weaker}
 use Rattle.scim_text.specs.declared.memory.Failed.TheVariants.{Because}
-use Rattle.scim_audit.specs.declared.audit_rows.AuditRow.{AuditRow}
 use Rattle.scim_shelf.specs.declared.changes.Change.{Change}
 use Rattle.scim_shelf.specs.declared.faults.ShelfFault.TheVariants.{Device}
 use Rattle.scim_shelf.specs.Shelves.{count_after}
-use Rattle.scim_shelf.specs.Stores.{Store, CanKeep, after}
+use Rattle.scim_shelf.specs.Stores.{Store, CanKeep}
 use Rattle.scim_store_tables.specs.Steps.{Leaves}
 use Rattle.scim_store.specs.Committing.{HasStore, IsDue, AreOf, Changes}
 use Rattle.scim_store.specs.Shelves.{IsKeptIn, CommitsWhole}
