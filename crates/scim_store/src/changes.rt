@@ -1,6 +1,6 @@
 //! Computes the edits of a change.
 
-ghost use Rattle.std.specs.Prelude.{◌≡◌, ◌≢◌, ◌≤◌, ◌&&◌, not, ℕ, List, length, take, AllPairs, IfOk, Some, map, option_map, string_bytes};
+ghost use Rattle.std.specs.Prelude.{◌≡◌, ◌≢◌, ◌&&◌, not, ℕ, List, AllPairs, IfOk, Some, map, option_map, string_bytes};
 ghost use Rattle.std.specs.Option.{option_copied};
 ghost use Rattle.scim_cell.specs.Content.{Content};
 ghost use Rattle.scim_value.specs.Members.{lists_value};
@@ -15,7 +15,7 @@ use crate::edits::{Edits, SecretEdit};
 use scim_cell::{Id, Row, Text};
 use scim_json::{door_code_of, kept_parts};
 use scim_schema::{Attribute, Kind, Leaf, SubAttribute, Unit};
-use scim_shelf::{Change, member_values, shared_values};
+use scim_shelf::{Change, member_values, remove_member_values, unshared_values};
 use scim_text::{NoMemory, push};
 use scim_value::{Resource, UniqueName, unique_names};
 use std::alloc::Global;
@@ -69,55 +69,38 @@ fn members_in(resource: Option<&Resource>) -> &[Row]
     }
 }
 
-/// Returns the length of the longest common prefix of two lists of members, compared by their values.
-fn shared_members(some: &[Row], others: &[Row]) -> usize
-    ensures inside { result ≤ length some.now × result ≤ length others.now }
-    ensures same { (v : List ℕ) → is_value_of v (take result some.now)
-        ≡ is_value_of v (take result others.now) }
+/// Returns copies of the texts of a set, each once.
+fn copies_of(alloc: Global, texts: &BTreeSet<&str>) -> Result<Vec<Text>, NoMemory>
+    ensures listed { IfOk result (λ copies. (v : List ℕ)
+        → is_among v copies.items ≡ is_in v texts.now) }
+    ensures once { IfOk result (λ copies. AllPairs (λ v w. v ≢ w) copies.items) }
 {
-    let leaf = Leaf::of(Attribute::Members, SubAttribute::Value);
-    shared_values(leaf, some, others)
-}
-
-/// Returns the values that are in `values`, but not in `others`, each once.
-fn values_beyond<'v>(
-    alloc: Global,
-    others: &BTreeSet<&'v str>,
-    values: &BTreeSet<&'v str>,
-) -> Result<Vec<Text>, NoMemory>
-    ensures listed { IfOk result (λ beyond. (v : List ℕ)
-        → is_among v beyond.items ≡ (is_in v values.now && not (is_in v others.now))) }
-    ensures once { IfOk result (λ beyond. AllPairs (λ v w. v ≢ w) beyond.items) }
-{
-    let mut beyond = Vec::new(alloc);
-    for value in values.difference(others) {
-        push(&mut beyond, Text::copy_of(alloc, value)?)?;
+    let mut copies = Vec::new(alloc);
+    for text in texts {
+        push(&mut copies, Text::copy_of(alloc, text)?)?;
     }
-    Ok(beyond)
+    Ok(copies)
 }
 
-/// Returns the values of `members` that no member of `others` has, each once. The first `shared` members of both
-/// lists must have the same values. Builds no set of values if `members` has no further members.
+/// Returns the values of `members` that no member of `others` has, each once. Makes a set only of the values of
+/// the members between the prefix and the suffix that both lists share, and passes over `others` once.
 fn values_after<'m>(
     alloc: Global,
-    shared: usize,
     others: &'m [Row],
     members: &'m [Row],
 ) -> Result<Vec<Text>, NoMemory>
-    requires inside { shared ≤ length members.now }
-    requires same { (v : List ℕ) → is_value_of v (take shared others.now)
-        ≡ is_value_of v (take shared members.now) }
     ensures listed { IfOk result (λ values. (v : List ℕ) → is_among v values.items
         ≡ (is_value_of v members.now && not (is_value_of v others.now))) }
     ensures once { IfOk result (λ values. AllPairs (λ v w. v ≢ w) values.items) }
 {
-    let rest = &members[shared..];
-    if rest.is_empty() {
+    let leaf = Leaf::of(Attribute::Members, SubAttribute::Value);
+    let unshared = unshared_values(leaf, others, members);
+    if unshared.is_empty() {
         return Ok(Vec::new(alloc));
     }
-    let values = member_values(alloc, rest)?;
-    let others = member_values(alloc, others)?;
-    values_beyond(alloc, &others, &values)
+    let mut values = member_values(alloc, unshared)?;
+    remove_member_values(others, &mut values);
+    copies_of(alloc, &values)
 }
 
 /// Returns the door code of the resource; `None` if there is no resource or it has none.
@@ -169,15 +152,14 @@ fn replacement<'r>(
 {
     let old_members = members_in(old);
     let new_members = members_in(new);
-    let shared = shared_members(old_members, new_members);
     Ok(Edits {
         id: id.text(alloc)?,
         kind,
         document,
         names_gone: names_beyond(alloc, new, old)?,
         names_come: names_beyond(alloc, old, new)?,
-        members_gone: values_after(alloc, shared, new_members, old_members)?,
-        members_come: values_after(alloc, shared, old_members, new_members)?,
+        members_gone: values_after(alloc, new_members, old_members)?,
+        members_come: values_after(alloc, old_members, new_members)?,
         secret: secret_edit(code_in(old), door_code),
     })
 }
