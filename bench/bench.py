@@ -27,6 +27,7 @@ def newest_program():
 def options():
     parser = argparse.ArgumentParser(description=__doc__)
     parser.add_argument("--scimd", metavar="PATH", help="the program; else the newest crates/scimd/out/**/scimd")
+    parser.add_argument("--beside", metavar="PATH", help="another program, which `connectors` and `members` measure beside")
     parser.add_argument("--slapd", metavar="FOLDER", default=os.path.join(TOP, "../shared/anchors/slapd"),
                         help="the folder with run.sh that measures slapd")
     parser.add_argument("--quick", action="store_true", help="300, 1,000 and 3,000 users, and fewer rounds")
@@ -42,7 +43,8 @@ def run(chosen, asked):
         sys.exit("bench: no scimd: name it by --scimd PATH, or build it (cd crates/scimd && rt run -- --help)")
     begun = time.time()
     with tempfile.TemporaryDirectory(prefix="scimd-bench-") as folder:
-        bench = Bench(program, folder, chosen.quick, os.path.normpath(chosen.slapd))
+        beside = chosen.beside and os.path.abspath(chosen.beside)
+        bench = Bench(program, beside, folder, chosen.quick, os.path.normpath(chosen.slapd))
         print(f"{program}\n{os.cpu_count()} processors, load {os.getloadavg()[0]:.1f}, {bench.rounds} rounds\n")
         for scenario in asked:
             print(scenario(bench), end="\n\n", flush=True)

@@ -8,6 +8,7 @@ ENTERPRISE = "urn:ietf:params:scim:schemas:extension:enterprise:2.0:User"
 PATCH_OP = "urn:ietf:params:scim:api:messages:2.0:PatchOp"
 TOKENS = f"hr {hashlib.sha256(b'abc').hexdigest()}\n"
 FIRST_GROUP = 10_000_000  # the number of the first group; all users have lower ones
+TEN = 10  # the members of a group where connectors ask
 PATHS = ["active", "displayName", "emails", "meta", "name.familyName", "name.givenName", "title", "department",
          "userName", "nickName", "timezone", "addresses.locality", "phoneNumbers.value", "manager.value"]
 
@@ -29,20 +30,20 @@ def user(number):
             "meta": meta("User")}
 
 
-def groups(users, groups_of_user, sizes):
-    """Groups of 100, so many that each user is in so many of them; or a group of the first users for each size."""
-    ranges = [range(number * 100, number * 100 + 100) for number in range(users * groups_of_user // 100)]
+def groups(users, groups_of_user, sizes, length):
+    """Groups of so many users, so many that each user is in so many of them; or one of the first users for each size."""
+    ranges = [range(number * length, (number + 1) * length) for number in range(users * groups_of_user // length)]
     for number, members in enumerate([range(size) for size in sizes] or ranges):
         yield {"id": id_of(FIRST_GROUP + number), "displayName": f"Team {number}", "externalId": f"T-{number}", "meta": meta("Group"),
                "members": [{"value": id_of(member % users)} for member in members]}
 
 
-def write_users_file(path, users, groups_of_user=0, sizes=()):
+def write_users_file(path, users, groups_of_user=0, sizes=(), length=100):
     with open(path, "w", encoding="utf-8") as file:
         file.write("[" + json.dumps(user(0)))
         for number in range(1, users):
             file.write(",\n" + json.dumps(user(number)))
-        for group in groups(users, groups_of_user, sizes):
+        for group in groups(users, groups_of_user, sizes, length):
             file.write(",\n" + json.dumps(group))
         file.write("]")
 
@@ -79,9 +80,10 @@ def request(method, target, body=None):
     return f"{head}Content-Type: application/scim+json\r\nContent-Length: {len(text)}\r\n\r\n{text}".encode()
 
 
-def patch(target, op, path, value):
+def patch(target, op, path, value=None):
     """The bytes of a PATCH of one operation."""
-    return request("PATCH", target, {"schemas": [PATCH_OP], "Operations": [{"op": op, "path": path, "value": value}]})
+    given = {} if value is None else {"value": value}
+    return request("PATCH", target, {"schemas": [PATCH_OP], "Operations": [{"op": op, "path": path, **given}]})
 
 
 def search(users, text, rest=""):
@@ -115,13 +117,29 @@ def by_work_address(server, number):
     return search("Users", f'emails[type eq "work" and value eq "user{number * 7919 % server.users}@example.com"]')
 
 
+def group_number(server, number):
+    """One of the groups of ten that each user is in one of."""
+    return number * 7919 % (server.users // TEN)
+
+
 def by_group_name(server, number):
     """A search for one of the groups, without its members."""
-    return search("Groups", f'displayName eq "team {number % (server.users // 100)}"', "&excludedAttributes=members")
+    return search("Groups", f'displayName eq "team {group_number(server, number)}"', "&excludedAttributes=members")
 
 
 def by_group_external_id(server, number):
-    return search("Groups", f'externalId eq "T-{number % (server.users // 100)}"', "&excludedAttributes=members")
+    return search("Groups", f'externalId eq "T-{group_number(server, number)}"', "&excludedAttributes=members")
+
+
+def by_group_of_user(server, number):
+    """A search for the users of a group."""
+    return search("Users", f'groups.value eq "{id_of(FIRST_GROUP + group_number(server, number))}"', "&attributes=userName")
+
+
+def is_member(server, number):
+    """Whether a user is in a group: a search for the group by its id, which names the user."""
+    asked = f'id eq "{id_of(FIRST_GROUP + group_number(server, number))}" and members eq "{id_of(number)}"'
+    return search("Groups", asked, "&attributes=id")
 
 
 def by_member(server, number):
@@ -147,6 +165,7 @@ def by_two_texts(server, number):
 TEXTS = [("externalId", by_external_id), ("emails.value", by_address), ("a value path of emails", by_work_address),
          ("the name of a group", by_group_name), ("the externalId of a group", by_group_external_id),
          ("members.value", by_member), ("a value path of members", by_member_in_brackets),
+         ("the id of a group and a member", is_member), ("the group of users", by_group_of_user),
          ("two names", by_two_names), ("an externalId or an address", by_two_texts)]
 
 
@@ -176,6 +195,11 @@ def last_page(server, number):
 def sorted_page(_server, _number):
     """A page of 100 by family name, with the groups of each user."""
     return search("Users", 'userName sw "user"', "&sortBy=name.familyName")
+
+
+def in_any_group(_server, _number):
+    """A page of 100 of the users that are in a group, without their groups."""
+    return search("Users", "groups pr", "&attributes=userName")
 
 
 def unindexed(_server, _number):

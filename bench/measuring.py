@@ -16,8 +16,8 @@ Ask = namedtuple("Ask", "name make count status", defaults=[200])
 class Bench:
     """A run: the program, a folder for its files, how large and how often."""
 
-    def __init__(self, program, folder, quick, slapd):
-        self.program, self.folder, self.slapd = program, folder, slapd
+    def __init__(self, program, beside, folder, quick, slapd):
+        self.program, self.beside, self.folder, self.slapd = program, beside, folder, slapd
         self.sizes = [300, 1_000, 3_000] if quick else [1_000, 10_000, 100_000]  # users
         self.lists = [30, 300, 900] if quick else [100, 1_000, 9_900]  # members of a group
         self.rounds, self.round_ms = (3, 100) if quick else (7, 1_000)
@@ -45,7 +45,7 @@ class Bench:
             self.imports[users] = run_ms([self.program, "import", "--db", users + ".db", "--users", users])[0]
         return users + ".db", self.imports[users]
 
-    def server(self, content, *options, policy=None):
+    def server(self, content, *options, policy=None, program=None):
         """A server over a copy of the database; by default `hr` may do everything."""
         original, _ = self.database(*content)
         copy = os.path.join(self.folder, f"copy-{next(self.copies)}.db")
@@ -53,7 +53,7 @@ class Bench:
             if os.path.exists(original + end):
                 shutil.copyfile(original + end, copy + end)
         files = self.files if policy is None else ["--policy", self.write("rules.json", policy), *self.files[2:]]
-        return Server([self.program, "serve", *files, *options], copy, content[0])
+        return Server([program or self.program, "serve", *files, *options], copy, content[0])
 
     def middles(self, pairs):
         """For each server and what it is asked, the middle of the processor milliseconds a request, asked in turn."""

@@ -1,4 +1,5 @@
 """The scenarios: each takes a run and gives a table. Their doc comments are what `--list` prints."""
+import itertools
 import json
 import time
 from contextlib import ExitStack
@@ -17,6 +18,7 @@ CREATE = Ask("create", data.create, 10, 201)
 PAGE = Ask("page of 100 with groups", data.page, 5)
 LAST_PAGE = Ask("one of the last pages of 100", data.last_page, 5)
 SORTED = Ask("sorted page of 100 with groups", data.sorted_page, 2)
+IN_ANY_GROUP = Ask("users in any group", data.in_any_group, 1)
 UNINDEXED = Ask("unindexed filter", data.unindexed, 2)
 BY_EMAIL = Ask("unindexed filter of emails", data.by_email, 2)
 BOTH = (("", []), (", no cache", ["--no-cache"]))
@@ -38,11 +40,16 @@ def users(bench):
 
 
 def connectors(bench):
-    """what connectors ask in each cycle, by texts, over 1,000, 10,000 and 100,000 users, each in a group of 100"""
-    table = Table("connectors: processor ms a request, by the number of users", bench.sizes, [(1, 0), (2, 0)])
+    """what connectors ask in each cycle, by texts, over 1,000, 10,000 and 100,000 users, each in a group of 10"""
+    contents = [(size, 1, (), data.TEN) for size in bench.sizes]
+    heads, made = [*bench.sizes], [(content, None) for content in contents]
+    if bench.beside:
+        heads, made = heads + ["beside"], made + [(contents[2], bench.beside)]
+    table = Table("connectors: processor ms a request, by the number of users", heads, [(1, 0), (2, 0)])
     with ExitStack() as stack:
-        servers = [stack.enter_context(bench.server((size, 1))) for size in bench.sizes]
-        add_rows(bench, table, servers, [GET, BY_NAME, *(Ask(f"search by {name}", ask, 100) for name, ask in data.TEXTS)])
+        servers = [stack.enter_context(bench.server(content, program=program)) for content, program in made]
+        by_texts = [Ask(f"search by {name}", ask, 100) for name, ask in data.TEXTS]
+        add_rows(bench, table, servers, [GET, BY_NAME, *by_texts, IN_ANY_GROUP])
     return table
 
 
@@ -50,7 +57,7 @@ def group_asks(number):
     """What the group of a number is asked."""
     path = f"/Groups/{data.id_of(data.FIRST_GROUP + number)}"
 
-    bare = path + "?excludedAttributes=members"
+    bare, members_gone = path + "?excludedAttributes=members", itertools.count(10)
     asked = f'id eq "{path[8:]}" and members eq "{data.id_of(1)}"'
 
     def add(target):
@@ -59,20 +66,28 @@ def group_asks(number):
     def rename(_server, own):
         return data.patch(bare, "replace", "displayName", f"Team {own}")
 
+    def remove(_server, _own):
+        return data.patch(bare, "remove", f'members[value eq "{data.id_of(next(members_gone))}"]')
+
     return [Ask("GET", lambda _server, _own: data.request("GET", path), 4),
             Ask("GET without the members", lambda _server, _own: data.request("GET", bare), 20),
             Ask("is it a member", lambda _server, _own: data.search("Groups", asked, "&attributes=id"), 20),
             Ask("PATCH that adds a member", add(path), 4), Ask("the same, replied without the members", add(bare), 4),
-            Ask("PATCH of the name, likewise", rename, 4)]
+            Ask("PATCH that removes a member, likewise", remove, 4), Ask("PATCH of the name, likewise", rename, 4)]
 
 
 def members(bench):
     """a group of 100, 1,000 and 9,900 members: GET, is it a member, and PATCH, with the cache and without"""
-    table = Table("members: processor ms a request, by the members of the group", bench.lists, [(1, 0), (2, 0)])
+    heads = [*bench.lists, *(["beside"] if bench.beside else [])]
+    table = Table("members: processor ms a request, by the members of the group", heads, [(1, 0), (2, 0)])
+    content = (bench.sizes[1], 0, tuple(bench.lists))
     for end, options in BOTH:
-        with bench.server((bench.sizes[1], 0, tuple(bench.lists)), *options) as server:
+        with ExitStack() as stack:
+            server = stack.enter_context(bench.server(content, *options))
+            other = stack.enter_context(bench.server(content, *options, program=bench.beside)) if bench.beside else None
             for asks in zip(*map(group_asks, range(len(bench.lists)))):
-                table.add(asks[0].name + end, bench.middles([(server, ask) for ask in asks]))
+                pairs = [(server, ask) for ask in asks] + ([(other, asks[-1])] if other else [])
+                table.add(asks[0].name + end, bench.middles(pairs))
     return table
 
 
