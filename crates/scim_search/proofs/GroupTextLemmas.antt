@@ -38,8 +38,7 @@ use Rattle.scim_filter_texts.proofs.Facts.{any_kept, cell_by_row, either, own_pa
 use Rattle.scim_view.specs.View.{Viewer, read_in, may_be_seen, sees, visible, visible_by}
 use Rattle.scim_view.specs.Groups.{seen, membership, membership_of, memberships, with_groups, visible_with}
 use Rattle.scim_view.specs.Sorted.{placed, sorted_by}
-use Rattle.scim_view.proofs.Facts.{any_weaker}
-use Rattle.scim_view.proofs.GroupLemmas.{restricted-put_values, seen_values}
+use Rattle.scim_view.proofs.Facts.{any_weaker, restricted-put_values, seen_values}
 use Rattle.scim_search.specs.PossibleIds.{group_leaf}
 use Rattle.scim_search.proofs.SomeTextLemmas.{any_mapped}
 

@@ -19,8 +19,7 @@ use Rattle.scim_query.specs.declared.pagers.Pager.{Pager}
 use Rattle.scim_query.specs.Pagers.{HasTaken}
 use Rattle.scim_shelf.specs.Indexed.{before, has_id as is_with_id, only_of, picked}
 use Rattle.scim_shelf.specs.Stores.{Store, IsStore, is_at}
-use Rattle.scim_shelf.proofs.Facts.{filter_swap, found_at}
-use Rattle.scim_shelf.proofs.PickLemmas.{picked_all}
+use Rattle.scim_shelf.proofs.Facts.{filter_swap, found_at, picked_all}
 use Rattle.scim_search.specs.PagesById.{at_ids, seen_of, TakesParts}
 use Rattle.scim_search.specs.PossibleIds.{has_id}
 use Rattle.scim_search.proofs.StoreViews.{made_ascends, made_views, strict_sorted}

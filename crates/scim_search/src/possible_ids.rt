@@ -10,19 +10,18 @@ ghost use Rattle.scim_filter_texts.specs.Needed.{AreAt, has_some_text, is_at};
 ghost use Rattle.scim_query.specs.Needed.{NeedsSome};
 ghost use Rattle.scim_shelf.specs.Members.{is_value_of};
 ghost use Rattle.scim_shelf.specs.Shelves.{IsReadFrom, OnlyReads};
-ghost use Rattle.scim_view.specs.code.Index.{is_found};
-ghost use Rattle.scim_view.specs.code.Memberships.{names_id};
 ghost use Rattle.scim_search.specs.PossibleIds as spec;
 ghost use Rattle.scim_search.specs.Walks.{AreCompared};
 
 use crate::lookups::known_name;
-use scim_cell::{Atom, Id, Row};
+use scim_cell::{Id, Row};
 use scim_filter_texts::{NeededText, compared_text};
 use scim_query::Query;
 use scim_schema::{Attribute, Kind, Leaf, SubAttribute, Unit, indexed_leaves, unique_leaves};
 use scim_shelf::{LeafText, Shelf, ShelfFault, Visitor};
 use scim_text::{Failed, NoMemory, push};
 use scim_value::Resource;
+use scim_view::member_id;
 use std::alloc::Global;
 use std::collections::BTreeSet;
 
@@ -53,16 +52,6 @@ impl Visitor for MemberGatherer {
     fn take(&mut self, _alloc: Global, resource: &Resource) -> Result<(), NoMemory> {
         let members = resource.part().values(Unit::whole(Attribute::Members));
         add_members(members, &mut self.ids)
-    }
-}
-
-/// Returns the id in the `value` of a member; `None` if its `value` isn't the text of an id.
-fn member_id(member: &Row) -> Option<Id>
-    ensures { (id : List ℕ) → IsId id → names_id id member.now ≡ is_found id result }
-{
-    match member.get(Leaf::of(Attribute::Members, SubAttribute::Value)) {
-        Some(Atom::Text(text)) => Id::read(text.as_str()),
-        _ => None,
     }
 }
 

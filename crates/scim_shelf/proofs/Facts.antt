@@ -7,6 +7,6 @@ pub use Rattle.scim_shelf.proofs.PlaceLemmas.{by_order, AreAbove, reversed}
 pub use Rattle.scim_shelf.proofs.NameLemmas.{by_bool, is_same_name-Decides, is_same_name-flips, found_unnamed, found_by_id, found_at}
 pub use Rattle.scim_shelf.proofs.ValueLemmas.{value_more, or_cond, or_false, left_beyond}
 pub use Rattle.scim_shelf.proofs.UnderLemmas.{exact_values}
-pub use Rattle.scim_shelf.proofs.PickLemmas.{filter_swap}
+pub use Rattle.scim_shelf.proofs.PickLemmas.{filter_swap, picked_all}
 pub use Rattle.scim_shelf.proofs.CountLemmas.{device_raises, counts_grow}
 pub use Rattle.scim_shelf.proofs.CollectLemmas.{cached_all}

@@ -206,8 +206,8 @@ impl GroupIndex {
     }
 }
 
-/// Returns the id in the `value` of a member; `None` if its `value` isn't the text of an id.
-fn member_id(member: &Row) -> Option<Id>
+/// Returns the id in the `value` of a member; `None` if its `value` isn't the text of an id (RFC 7643 section 4.2).
+pub fn member_id(member: &Row) -> Option<Id>
     ensures id { (id : List ℕ) → IsId id
         → names_id id member.now ≡ spec.is_found id result }
 {

@@ -15,7 +15,7 @@ mod viewers;
 mod views;
 
 pub use attribute_lists::Names;
-pub use group_index::GroupIndex;
+pub use group_index::{GroupIndex, member_id};
 pub use laws::{allowed_leaves_are_seen, denied_values_are_unseen, nothing_comes_into_view};
 pub use listing_groups::ListingGroups;
 pub use projection::{Wanted, project};

@@ -18,10 +18,10 @@ loop-member-preserved c =
     elim c.match-member_id.branch [
       | in-Some+in_ok-insert w ↦ λ i valid.
           let id = w.in-Some.id in
-          member_more i members k member (has_id c.args.ids.now i) (has_id c.loop-member.ids i) _ (is_same_id id i) inside c.member-item.is (w.in-Some.ensures i valid)
+          member_more i members k member (has_id c.args.ids.now i) (has_id c.loop-member.ids i) _ (is_same_id id i) inside c.member-item.is (w.in-Some.ensures.id i valid)
           (ap (λ (s : BTreeSet (List ℕ)). has_id s i) w.ids-is ∙ w.in_ok-insert.ensures.updates.0 i ∙ or_cond _ (has_id c.loop-member.ids i) ∙ ap (λ b. has_id c.loop-member.ids i || b) (is_eq-slice_cmp id i))
           (c.loop-member.invariant i valid)
       | in_default w ↦ λ i valid.
-          member_more i members k member (has_id c.args.ids.now i) (has_id c.loop-member.ids i) _ false inside c.member-item.is (w.in_default.ensures i valid)
+          member_more i members k member (has_id c.args.ids.now i) (has_id c.loop-member.ids i) _ false inside c.member-item.is (w.in_default.ensures.id i valid)
           (ap (λ (s : BTreeSet (List ℕ)). has_id s i) w.ids-is ∙ sym (or-false (has_id c.loop-member.ids i))) (c.loop-member.invariant i valid)
     ]

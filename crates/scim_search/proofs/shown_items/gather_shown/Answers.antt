@@ -6,7 +6,7 @@ use Rattle.scim_schema.specs.declared.Kind.TheVariants.{Group}
 use Rattle.scim_cell.specs.Kinds.{of_kind}
 use Rattle.scim_view.specs.Listings.{AreListing}
 use Rattle.scim_view.specs.Shown.{shown, shows_attribute}
-use Rattle.scim_view.proofs.ShownPartLemmas.{unshown_groups}
+use Rattle.scim_view.proofs.Facts.{unshown_groups}
 use Rattle.scim_search.proofs.shown_items.gather_shown.Goals as goal
 
 pub returns-then-shows_attribute-clause-groups : goal.returns-then-shows_attribute-clause-groups
