@@ -9,12 +9,13 @@ import tempfile
 import time
 
 import scenarios
+from connections import connections
 from measuring import Bench
 from slapd import slapd
 
 TOP = os.path.dirname(os.path.dirname(os.path.abspath(__file__)))
 SCENARIOS = [scenarios.users, scenarios.connectors, scenarios.members, scenarios.rules, scenarios.values, scenarios.cache,
-             scenarios.memory, scenarios.start, scenarios.replay, scenarios.bodies, slapd]
+             scenarios.memory, scenarios.start, scenarios.replay, scenarios.bodies, connections, slapd]
 
 
 def newest_program():
@@ -27,7 +28,7 @@ def newest_program():
 def options():
     parser = argparse.ArgumentParser(description=__doc__)
     parser.add_argument("--scimd", metavar="PATH", help="the program; else the newest crates/scimd/out/**/scimd")
-    parser.add_argument("--beside", metavar="PATH", help="another program, which `connectors` and `members` measure beside")
+    parser.add_argument("--beside", metavar="PATH", help="another program, which some scenarios measure beside")
     parser.add_argument("--slapd", metavar="FOLDER", default=os.path.join(TOP, "../shared/anchors/slapd"),
                         help="the folder with run.sh that measures slapd")
     parser.add_argument("--quick", action="store_true", help="300, 1,000 and 3,000 users, and fewer rounds")
