@@ -17,6 +17,7 @@ mod sort_keys;
 
 pub use client_searches::search_view;
 pub use laws::{pages_are_arranged, queries_have_one_page};
+pub use matching_entries::slice_of;
 pub use pagers::Pager;
 pub use queries::{Page, Query, search};
 pub use shown_pages::shown_page;

@@ -22,32 +22,34 @@ pub(crate) struct Entry<'a> {
     part: &'a Part,
 }
 
-/// Whether the query's filter, if any, matches the part.
-pub(crate) fn is_matching(alloc: Global, query: &Query, part: &Part) -> Result<bool, NoMemory>
-    ensures { IfOk result (λ b. b ≡ is_match query.now.filter part.now) }
-{
-    match &query.filter {
-        None => Ok(true),
-        Some(filter) => holds(alloc, filter, part),
+impl Query {
+    /// Whether the filter matches the part. True if there is no filter.
+    pub fn matches(&self, alloc: Global, part: &Part) -> Result<bool, NoMemory>
+        ensures { IfOk result (λ b. b ≡ is_match self.now.filter part.now) }
+    {
+        match &self.filter {
+            None => Ok(true),
+            Some(filter) => holds(alloc, filter, part),
+        }
     }
-}
 
-/// Like [`is_matching`], for the part restricted to the fields that the test admits.
-pub(crate) fn is_matching_where<T: RowTest>(
-    alloc: Global,
-    query: &Query,
-    part: &Part,
-    test: &T,
-) -> Result<bool, NoMemory>
-    ensures { IfOk result (λ b. b
-        ≡ is_match query.now.filter (restricted_part (T.keeps test.now) part.now)) }
-{
-    // This call lets the proof use that the part is valid, so the restricted part has exactly the restricted
-    // rows.
-    let _ = part.rows();
-    match &query.filter {
-        None => Ok(true),
-        Some(filter) => holds_where(alloc, filter, part, test),
+    /// Like [`Query::matches`], for the part restricted to the fields that the test admits. The part isn't copied.
+    pub fn matches_where<T: RowTest>(
+        &self,
+        alloc: Global,
+        part: &Part,
+        test: &T,
+    ) -> Result<bool, NoMemory>
+        ensures { IfOk result (λ b. b
+            ≡ is_match self.now.filter (restricted_part (T.keeps test.now) part.now)) }
+    {
+        // This call lets the proof use that the part is valid, so the restricted part has exactly the
+        // restricted rows.
+        let _ = part.rows();
+        match &self.filter {
+            None => Ok(true),
+            Some(filter) => holds_where(alloc, filter, part, test),
+        }
     }
 }
 
@@ -63,7 +65,7 @@ fn push_matching<'a>(
     ensures keys { OnOk result (All (spec.HasKey query.now.sort_by) entries.old.items
         → All (spec.HasKey query.now.sort_by) entries.new.items) }
 {
-    if is_matching(alloc, query, part)? {
+    if query.matches(alloc, part)? {
         let key = key_by(alloc, query.sort_by, part)?;
         push(entries, Entry { key, part })?;
     }
@@ -106,7 +108,7 @@ pub(crate) fn sort_entries(entries: &mut Vec<Entry<'_>>, descending: bool) -> Re
 }
 
 /// Returns at most `count` items from position `start` on. Positions are counted from 1, and 0 counts as 1.
-pub(crate) fn slice_of<T>(items: &[T], start: usize, count: usize) -> &[T]
+pub fn slice_of<T>(items: &[T], start: usize, count: usize) -> &[T]
     ensures { result.now ≡ take count (drop (start - 1) items.now) }
 {
     let first = start.saturating_sub(1).min(items.len());

@@ -6,7 +6,6 @@ ghost use Rattle.scim_query.specs.Pagers as spec;
 ghost use Rattle.scim_query.specs.code.Kept as code;
 
 use crate::kept_parts::{KeptPart, parts_from, place_of, put_in_place};
-use crate::matching_entries::{is_matching, is_matching_where};
 use crate::queries::{Page, Query, first_position};
 use crate::sort_keys::{key_by, key_where};
 use scim_cell::RowTest;
@@ -55,7 +54,7 @@ impl<'q> Pager<'q> {
             → spec.HasTaken (parts ++ part ∷ []) self.new) }
         ensures refused { OnErr result (spec.IsUnchanged self.old self.new) }
     {
-        if !is_matching(self.alloc, self.query, &part)? {
+        if !self.query.matches(self.alloc, &part)? {
             return Ok(false);
         }
         let key = key_by(self.alloc, self.query.sort_by, &part)?;
@@ -77,7 +76,7 @@ impl<'q> Pager<'q> {
             → spec.HasTaken (parts ++ restricted_part (T.keeps test.now) part.now ∷ []) self.new) }
         ensures refused { OnErr result (spec.IsUnchanged self.old self.new) }
     {
-        if !is_matching_where(self.alloc, self.query, part, test)? {
+        if !self.query.matches_where(self.alloc, part, test)? {
             return Ok(false);
         }
         let key = key_where(self.alloc, self.query.sort_by, part, test)?;

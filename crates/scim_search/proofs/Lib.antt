@@ -1,6 +1,7 @@
 pub mod ApartLemmas
 pub mod Facts
 pub mod ListLemmas
+pub mod IdMatchLemmas
 pub mod LookupLemmas
 pub mod NameLemmas
 pub mod ShownItemLemmas

@@ -1,5 +1,6 @@
 pub mod PatternCache
 pub mod GroupsBeside
+pub mod IdMatches
 pub mod Lookups
 pub mod ReadPatterns
 pub mod ShownItems

@@ -1,11 +1,10 @@
--- Searches over all resources of a kind, over those that have one of some texts, or over the one with an id.
+-- Searches over all resources of a kind, or over those that have one of some texts.
 use Rattle.std.specs.Prelude.{◌≡◌, ℕ, Bool, true, List, map, filter}
 use Rattle.scim_schema.specs.declared.Leaf.{Leaf}
 use Rattle.scim_schema.specs.Characteristics.{is_case_exact}
 use Rattle.scim_schema.specs.declared.Kind.{Kind}
 use Rattle.scim_schema.specs.declared.Kind.TheVariants.{Group}
 use Rattle.scim_cell.specs.Content.{Content}
-use Rattle.scim_cell.specs.Equality.{is_same_id}
 use Rattle.scim_cell.specs.Kinds.{of_kind}
 use Rattle.scim_filter.specs.Relation.{cased}
 use Rattle.scim_filter_texts.specs.declared.needs.NeededText.{NeededText}
@@ -18,7 +17,7 @@ use Rattle.scim_shelf.specs.Stores.{has_some_text}
 use Rattle.scim_search.specs.declared.view_builders.ViewBuilder.{ViewBuilder}
 use Rattle.scim_search.specs.declared.walks.Walk.{Walk}
 use Rattle.scim_search.specs.declared.walks.WalkScope.{WalkScope}
-use Rattle.scim_search.specs.declared.walks.WalkScope.TheVariants.{WholeKind, SomeText, WithId}
+use Rattle.scim_search.specs.declared.walks.WalkScope.TheVariants.{WholeKind, SomeText}
 use Rattle.scim_search.specs.ViewBuilders.{made, made_of_all}
 
 -- the texts are those of the list, as comparisons at their leaves use them
@@ -30,7 +29,6 @@ AreCompared needed texts =
 abbrev pub is_walked : WalkScope → Content → Bool
 is_walked WholeKind c = true
 is_walked (SomeText texts) c = has_some_text texts.items c
-is_walked (WithId id) c = is_same_id id c.id
 
 -- the resources that a search reads, in order of id
 abbrev pub walked : Walk → List Content → List Content

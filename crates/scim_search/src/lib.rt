@@ -3,6 +3,7 @@
 #![tactic(auto)]
 
 mod groups_of_resource;
+mod id_matches;
 mod lookups;
 mod pages;
 mod pages_by_id;

@@ -15,8 +15,9 @@ ghost use Rattle.scim_shelf.specs.Stores.{has_name, is_at};
 ghost use Rattle.scim_search.specs.Lookups as spec;
 
 use crate::groups_of_resource::view_beside;
+use crate::id_matches::{empty_page, page_of_id};
+use crate::read_patterns::ReadPatterns;
 use crate::visitors::ListingVisitor;
-use crate::walks::{Walk, page_of_walk};
 use scim_cell::Id;
 use scim_filter_grammar::StringLiteral;
 use scim_filter_texts::compared_text;
@@ -175,7 +176,7 @@ pub(crate) fn page_named<S: Shelf>(
 
 /// Returns the page of the client's query over the resources of a kind. Only the resource with the id can
 /// match. Reads only that resource and the groups that list it. A shelf in memory copies the whole resource only if
-/// the query names `groups`.
+/// the query names `groups`, and otherwise only the item of the page.
 pub(crate) fn page_with_id<S: Shelf>(
     alloc: Global,
     viewer: &Viewer<'_>,
@@ -190,9 +191,15 @@ pub(crate) fn page_with_id<S: Shelf>(
         (of_kind kind store.resources)) query.now page) }
     ensures read { OnlyReads S.stands S.is_honest S.failures shelf.old shelf.new result }
 {
-    if query.attributes(alloc)?.contains(&Attribute::Groups) {
+    let attributes = query.attributes(alloc)?;
+    if attributes.contains(&Attribute::Groups) {
         let owner = shelf.by_id(alloc, kind, id)?;
         return page_found(alloc, viewer, shelf, kind, owner, query);
     }
-    page_of_walk(alloc, viewer, shelf, &Walk::with_id(kind, id), query)
+    let patterns = ReadPatterns::of(alloc, viewer, kind)?;
+    if !patterns.may_find(query) {
+        return Ok(empty_page(alloc, query));
+    }
+    let attributes = attributes.as_slice();
+    page_of_id(alloc, viewer, &patterns, shelf, id, attributes, query)
 }

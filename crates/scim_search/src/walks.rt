@@ -1,4 +1,4 @@
-//! Searches that read all resources of a kind, those that have one of some texts, or the one with an id.
+//! Searches that read all resources of a kind, or those that have one of some texts.
 ghost use Rattle.std.specs.Prelude.{◌≡◌, false, true, ℕ, List, [], IfOk, OnOk};
 ghost use Rattle.std.specs.List.{FoldsTo};
 ghost use Rattle.scim_schema.specs.declared.Kind.{Kind};
@@ -25,7 +25,6 @@ use crate::texts::searched_texts;
 use crate::unfiltered::{is_of_all, page_of_window};
 use crate::view_builders::{ViewBuilder, ViewScope};
 use crate::visitors::{Found, GroupVisitor, SearchVisitor};
-use scim_cell::Id;
 use scim_query::{Page, Pager, Query, shown_page};
 use scim_schema::{Attribute, Kind};
 use scim_shelf::{LeafText, Shelf, ShelfFault};
@@ -40,8 +39,6 @@ enum WalkScope<'a> {
     WholeKind,
     /// Those that have one of the texts at its leaf.
     SomeText(Vec<LeafText<'a>>),
-    /// The one with the id, if there is one.
-    WithId(Id),
 }
 
 /// The resources that a search reads.
@@ -71,16 +68,6 @@ impl<'a> Walk<'a> {
         }
     }
 
-    /// Returns the resource of the kind with the id, if there is one.
-    pub(crate) fn with_id(kind: Kind, id: Id) -> Walk<'a>
-        ensures { result ≡ record { kind = kind; scope = WalkScope.WithId id } }
-    {
-        Walk {
-            kind,
-            scope: WalkScope::WithId(id),
-        }
-    }
-
     /// Whether the search reads all resources of the kind.
     fn reads_all(&self) -> bool
         ensures { result ≡ true → self.now.scope ≡ WalkScope.WholeKind }
@@ -102,8 +89,8 @@ impl<'a> Walk<'a> {
         shelf: &mut S,
         visitor: &mut SearchVisitor<'_>,
     ) -> Result<(), Failed<ShelfFault>>
-        ensures answer { OnOk result ((store : Store) (base : List ℕ) → S.stands shelf.old store
-            → S.is_honest shelf.new → IsStore base store
+        ensures answer { OnOk result ((store : Store) → S.stands shelf.old store
+            → S.is_honest shelf.new
             → FoldsTo TakesResource visitor.old (spec.walked self.now store.resources)
             visitor.new) }
         ensures read { OnlyReads S.stands S.is_honest S.failures shelf.old shelf.new result }
@@ -113,7 +100,6 @@ impl<'a> Walk<'a> {
             WalkScope::SomeText(texts) => {
                 shelf.each_of(alloc, self.kind, texts.as_slice(), visitor)
             }
-            WalkScope::WithId(id) => shelf.lend_by_id(alloc, self.kind, *id, visitor),
         }
     }
 }

@@ -28,7 +28,7 @@ returns-clause-page g c store stands honest groups base is valid =
     let first = c.new-search.result in
     let fresh = c.new-search.ensures in
     let last = c.show.new.visitor in
-    let took = took_resources first those last (c.in_ok-show.ensures.answer store base stands honest valid) in
+    let took = took_resources first those last (c.in_ok-show.ensures.answer store stands honest) in
     let taken : HasTaken parts last.pager =
     subst (λ (s : ViewBuilder). HasTaken (made_of_walk groups s walk store.resources) last.pager) fresh.builder
     (took.taken groups [] (subst (IsViewBuilder groups) (sym fresh.builder) is) fresh.skips fresh.taken) in

@@ -1,5 +1,5 @@
 use Rattle.scim_query.proofs.KeyLemmas.{part_left}
-use Rattle.scim_query.proofs.matching_entries.is_matching_where.Goals as goal
+use Rattle.scim_query.proofs.queries.Query.matches_where.Goals as goal
 
 pub returns-in-Some : goal.returns-in-Some
 returns-in-Some g c =
