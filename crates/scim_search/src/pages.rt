@@ -34,7 +34,7 @@ fn page_unnamed<S: Shelf>(
     ensures read { OnlyReads S.stands S.is_honest S.failures shelf.old shelf.new result }
 {
     let walk = Walk::of(alloc, kind, query)?;
-    if !walk.has_texts() {
+    if walk.reads_all() {
         if let Some(texts) = possible_texts(alloc, kind, query)? {
             return page_of_texts(alloc, viewer, shelf, kind, texts.as_slice(), query);
         }

@@ -69,15 +69,10 @@ impl<'a> Walk<'a> {
     }
 
     /// Whether the search reads all resources of the kind.
-    fn reads_all(&self) -> bool
+    pub(crate) fn reads_all(&self) -> bool
         ensures { result ≡ true → self.now.scope ≡ WalkScope.WholeKind }
     {
         matches!(self.scope, WalkScope::WholeKind)
-    }
-
-    /// Whether only the resources that have one of some texts are read.
-    pub(crate) fn has_texts(&self) -> bool {
-        matches!(self.scope, WalkScope::SomeText(_))
     }
 
     /// Passes the resources to the visitor, in order of id.
