@@ -161,7 +161,7 @@ all_seen v walk base store is = with_known v walk.kind store.resources _ (known_
 abbrev small : Viewer → Query → Content → Content
 small v query c = visible_attributes (attributes_of query) (read_in v c) c
 
--- what a query can't tell from the whole visible part, whatever groups list the resource
+-- a query that doesn't name `groups` can't tell the visible part of its attributes from the whole one
 pub alike_seen : (v : Viewer) (query : Query) (gs : List Content) (c : Content) → IsPart c → names_groups query ≡ false → Alike query (small v query c) (with_groups v gs c)
 unfolding with_groups
 alike_seen v query gs c part none = seen_alike query (read_in v c) v.base (seen v gs) c part none

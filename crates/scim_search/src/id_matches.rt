@@ -1,5 +1,5 @@
-//! The page of a query that requires an id and doesn't name `groups`. The resource with the id is lent, and only its
-//! item is copied.
+//! The page of a query that requires an id and doesn't name `groups`. The query is evaluated on the resource that the
+//! shelf lends, and the item of the page is copied from it.
 ghost use Rattle.std.specs.Prelude.{◌≡◌, ◌∷◌, [], false, map, IfOk, if◌then◌else◌};
 ghost use Rattle.scim_schema.specs.declared.Kind.{Kind};
 ghost use Rattle.scim_cell.specs.Kinds.{of_kind};
@@ -118,7 +118,8 @@ pub(crate) fn empty_page(alloc: Global, query: &Query) -> Page
 
 /// Returns the page of a query that names only `attributes`, and not `groups`, over the list that has only the
 /// resource with the id, or over the empty list if there is none. The resource is of the kind of `patterns`. It is read
-/// again to make its item, if it matches and is on the page. A shelf in memory copies only the item.
+/// again to make its item, if it matches and is on the page. A shelf in memory copies the item, and the visible part of
+/// the named attributes if a value filter is on one of them.
 pub(crate) fn page_of_id<S: Shelf>(
     alloc: Global,
     viewer: &Viewer<'_>,

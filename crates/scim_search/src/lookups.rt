@@ -176,7 +176,7 @@ pub(crate) fn page_named<S: Shelf>(
 
 /// Returns the page of the client's query over the resources of a kind. Only the resource with the id can
 /// match. Reads only that resource and the groups that list it. A shelf in memory copies the whole resource only if
-/// the query names `groups`, and otherwise only the item of the page.
+/// the query names `groups`; see [`page_of_id`] for what it copies otherwise.
 pub(crate) fn page_with_id<S: Shelf>(
     alloc: Global,
     viewer: &Viewer<'_>,
