@@ -1,5 +1,5 @@
 -- What a watcher that keeps rows was told.
-use Rattle.std.specs.Prelude.{◌≡◌, List, [], ◌++◌, ◌∷◌, map}
+use Rattle.std.specs.Prelude.{◌≡◌, List, ◌++◌, length, map}
 use Rattle.scim_shelf_watch.specs.Watched.{NumberedRow, numbered_row}
 use Rattle.case_watchers.specs.declared.row_watcher.ToldRow.{ToldRow}
 use Rattle.case_watchers.specs.declared.row_watcher.RowWatcher.{RowWatcher}
@@ -12,10 +12,7 @@ told_row told = numbered_row told.number told.row
 abbrev pub rows_of : RowWatcher → List NumberedRow
 rows_of watcher = map told_row watcher.rows.items
 
--- The watcher keeps the rows that were committed.
-abbrev pub HasTold : RowWatcher → List NumberedRow → Type 0
-HasTold watcher rows = rows_of watcher ≡ rows
-
--- The watcher keeps the rows that were committed, and behind them the row of the commit that has begun.
-abbrev pub HasBegun : RowWatcher → List NumberedRow → NumberedRow → Type 0
-HasBegun watcher rows row = rows_of watcher ≡ rows ++ row ∷ []
+-- The watcher keeps the rows that were committed, and behind them those of the commits that have begun.
+pub record HasTold (watcher : RowWatcher) (rows begun : List NumberedRow) : Type 0 where
+  pub both : rows_of watcher ≡ rows ++ begun
+  pub count : watcher.committed ≡ length rows

@@ -1,6 +1,7 @@
 //! A watcher that keeps the rows that it is told of.
-ghost use Rattle.std.specs.Prelude.{[], map};
-ghost use Rattle.case_watchers.specs.Watchers.{HasTold, HasBegun, told_row};
+ghost use Rattle.std.specs.Prelude.{◌≡◌, List, [], map};
+ghost use Rattle.scim_shelf_watch.specs.Watched.{NumberedRow};
+ghost use Rattle.case_watchers.specs.Watchers.{HasTold, told_row};
 
 use scim_audit::AuditRow;
 use scim_shelf::ShelfFault;
@@ -28,26 +29,30 @@ impl Drop for ToldRow {
 /// A watcher that allows each commit and keeps copies of the rows that were committed.
 #[derive(Drop)]
 pub struct RowWatcher {
-    /// The rows that were committed. After them, between `begins` and the call that follows it, the row of the
-    /// commit that has begun.
+    /// The rows that were committed, and behind them the rows of the commits that have begun.
     rows: Vec<ToldRow>,
+    /// The number of rows that were committed.
+    committed: usize,
 }
 
 impl RowWatcher {
     /// Returns a watcher that has been told of no row.
     pub fn new(alloc: Global) -> RowWatcher
-        ensures { ⟦<RowWatcher as Watcher>⟧.told result [] }
+        ensures { ⟦<RowWatcher as Watcher>⟧.told result [] [] }
     {
         RowWatcher {
             rows: Vec::new(alloc),
+            committed: 0,
         }
     }
 
     /// Returns the rows that were committed, in order.
     pub fn rows(&self) -> &[ToldRow]
-        ensures { ⟦<RowWatcher as Watcher>⟧.told self.now (map told_row result.now) }
+        ensures { (rows begun : List NumberedRow) → ⟦<RowWatcher as Watcher>⟧.told self.now rows begun
+            → map told_row result.now ≡ rows }
     {
-        self.rows.as_slice()
+        let count = self.committed.min(self.rows.len());
+        self.rows.as_slice().split_at(count).0
     }
 }
 
@@ -55,8 +60,6 @@ impl Watcher for RowWatcher {
     ghost told = { HasTold };
 
     ghost allowed = { HasTold };
-
-    ghost begun = { HasBegun };
 
     fn allows(&mut self) -> bool {
         true
@@ -67,9 +70,15 @@ impl Watcher for RowWatcher {
         push(&mut self.rows, ToldRow { number, row })
     }
 
-    fn committed(&mut self) {}
+    fn committed(&mut self) {
+        self.committed = self.rows.len();
+    }
 
     fn failed(&mut self, _fault: &Failed<ShelfFault>) {
         let _row = self.rows.pop();
+    }
+
+    fn lost(&mut self, _fault: &Failed<ShelfFault>) {
+        self.rows.truncate(self.committed);
     }
 }

@@ -8,7 +8,7 @@ use Rattle.scim_cell.specs.Content.{Content}
 use Rattle.scim_audit_listing.specs.Listings.{listed}
 use Rattle.scim_shelf.specs.declared.faults.ShelfFault.{ShelfFault}
 use Rattle.scim_shelf.specs.declared.faults.ShelfFault.TheVariants.{Device, Full}
-use Rattle.scim_shelf.specs.Caches.{HasKeyed}
+use Rattle.scim_shelf_cache.specs.Caches.{HasKeyed}
 use Rattle.scim_shelf.specs.Shelves.{Counts, count_after}
 use Rattle.scim_shelf.specs.Stores.{Store, is_at}
 use Rattle.scim_hub.specs.declared.hubs.Hub.{Hub}

@@ -8,7 +8,7 @@ use Rattle.scim_audit_listing.specs.declared.listings.LineFormat.TheVariants.{Wo
 use Rattle.scim_audit_listing.specs.Listings.{listed}
 use Rattle.scim_policy.specs.Rules.{Rule}
 use Rattle.scim_shelf.specs.declared.faults.ShelfFault.TheVariants.{Device}
-use Rattle.scim_shelf.specs.Caches.{HasKeyed}
+use Rattle.scim_shelf_cache.specs.Caches.{HasKeyed}
 use Rattle.scim_shelf.specs.Shelves.{count_after}
 use Rattle.scim_shelf.specs.Stores.{Store, is_at}
 use Rattle.scim_hub.specs.declared.hubs.Hub.{Hub}

@@ -1,6 +1,6 @@
 -- What a connection of the administrator has still to write, and what it needs next.
 use Rattle.std.specs.Prelude.{◌≡◌, ◌≢◌, ℕ, Bool, true, false, List, [], drop, Option, None, Some, string_bytes, if◌then◌else◌}
-use Rattle.scim_shelf.specs.Caches.{HasKeyed}
+use Rattle.scim_shelf_cache.specs.Caches.{HasKeyed}
 use Rattle.scim_shelf.specs.Stores.{Store}
 use Rattle.scim_admin.specs.declared.connections.AdminConnection.{AdminConnection}
 use Rattle.scim_admin.specs.declared.connections.Need.{Need}

@@ -1,6 +1,6 @@
 //! Carries out the requests of the administrator.
 ghost use Rattle.std.specs.Prelude.{◌≡◌, List, None, Some, IfOk, IfErr, IsSome, IsTrue, false, is_some, codes, string_bytes};
-ghost use Rattle.scim_shelf.specs.Caches.{HasKeyed};
+ghost use Rattle.scim_shelf_cache.specs.Caches.{HasKeyed};
 ghost use Rattle.scim_token.specs.TokenFile.{Entry};
 ghost use Rattle.scim_token.specs.Tokens.{Knows};
 ghost use Rattle.scim_token.specs.declared.token_table.Tokens.{Tokens};
@@ -81,7 +81,7 @@ pub(crate) fn answer<P: Peers, S: OpenShelf, H: Host>(
     ensures clients { IsTrue P.is_known → KeepsClients P.seen P.written P.takes_all P.is_closed
         peers.old peers.new }
     ensures reloads { Reloads ⟦<WatchedShelf<S, ServerWatch<H>> as Shelf>⟧.stands
-        ⟦<WatchedShelf<S, ServerWatch<H>> as Shelf>⟧.is_honest H.gives hub.old hub.new }
+        ⟦<WatchedShelf<S, ServerWatch<H>> as Shelf>⟧.is_honest ⟦<WatchedShelf<S, ServerWatch<H>> as Shelf>⟧.has_round H.gives hub.old hub.new }
     ensures refuses { (table : Tokens) (entries : List Entry)
         → standing.old.tokens ≡ Some table → Knows entries table
         → client_of entries message.now.token ≡ None
@@ -117,7 +117,7 @@ fn carry_out<P: Peers, S: OpenShelf, H: Host>(
     ensures clients { IsTrue P.is_known → KeepsClients P.seen P.written P.takes_all P.is_closed
         peers.old peers.new }
     ensures reloads { Reloads ⟦<WatchedShelf<S, ServerWatch<H>> as Shelf>⟧.stands
-        ⟦<WatchedShelf<S, ServerWatch<H>> as Shelf>⟧.is_honest H.gives hub.old hub.new }
+        ⟦<WatchedShelf<S, ServerWatch<H>> as Shelf>⟧.is_honest ⟦<WatchedShelf<S, ServerWatch<H>> as Shelf>⟧.has_round H.gives hub.old hub.new }
     ensures tells { IfOk result (Tells ⟦<WatchedShelf<S, ServerWatch<H>> as Shelf>⟧.stands
         ⟦<WatchedShelf<S, ServerWatch<H>> as Shelf>⟧.is_honest
         ⟦<WatchedShelf<S, ServerWatch<H>> as Shelf>⟧.failures hub.old hub.new
@@ -146,7 +146,7 @@ fn health<S: OpenShelf, H: Host>(
     closes: bool,
 ) -> Result<Reply, NoMemory>
     ensures keeps { KeepsShelf ⟦<WatchedShelf<S, ServerWatch<H>> as Shelf>⟧.stands
-        ⟦<WatchedShelf<S, ServerWatch<H>> as Shelf>⟧.is_honest shelf.old shelf.new }
+        ⟦<WatchedShelf<S, ServerWatch<H>> as Shelf>⟧.is_honest ⟦<WatchedShelf<S, ServerWatch<H>> as Shelf>⟧.has_round shelf.old shelf.new }
 {
     if shelf.watcher().is_gone() {
         let body = "the database's files are gone\n";
@@ -164,7 +164,7 @@ fn show_metrics<P: Peers, S: OpenShelf, H: Host>(
     closes: bool,
 ) -> Result<Reply, NoMemory>
     ensures keeps { KeepsHub ⟦<WatchedShelf<S, ServerWatch<H>> as Shelf>⟧.stands
-        ⟦<WatchedShelf<S, ServerWatch<H>> as Shelf>⟧.is_honest hub.old hub.new }
+        ⟦<WatchedShelf<S, ServerWatch<H>> as Shelf>⟧.is_honest ⟦<WatchedShelf<S, ServerWatch<H>> as Shelf>⟧.has_round hub.old hub.new }
 {
     let figures = Figures {
         refused_tokens: hub.refused_tokens(),
@@ -182,7 +182,7 @@ fn list<S: OpenShelf, H: Host>(
     closes: bool,
 ) -> Result<Reply, NoMemory>
     ensures keeps { KeepsShelf ⟦<WatchedShelf<S, ServerWatch<H>> as Shelf>⟧.stands
-        ⟦<WatchedShelf<S, ServerWatch<H>> as Shelf>⟧.is_honest shelf.old shelf.new }
+        ⟦<WatchedShelf<S, ServerWatch<H>> as Shelf>⟧.is_honest ⟦<WatchedShelf<S, ServerWatch<H>> as Shelf>⟧.has_round shelf.old shelf.new }
     ensures tells { IfOk result (TellsRows
         (⟦<WatchedShelf<S, ServerWatch<H>> as Shelf>⟧.stands shelf.old) query closes) }
 {
@@ -209,7 +209,7 @@ fn export<S: OpenShelf, H: Host>(
     closes: bool,
 ) -> Result<Reply, NoMemory>
     ensures keeps { KeepsShelf ⟦<WatchedShelf<S, ServerWatch<H>> as Shelf>⟧.stands
-        ⟦<WatchedShelf<S, ServerWatch<H>> as Shelf>⟧.is_honest shelf.old shelf.new }
+        ⟦<WatchedShelf<S, ServerWatch<H>> as Shelf>⟧.is_honest ⟦<WatchedShelf<S, ServerWatch<H>> as Shelf>⟧.has_round shelf.old shelf.new }
     ensures tells { IfOk result (TellsAll
         (HasKeyed ⟦<WatchedShelf<S, ServerWatch<H>> as Shelf>⟧.stands)
         ⟦<WatchedShelf<S, ServerWatch<H>> as Shelf>⟧.is_honest
@@ -263,7 +263,7 @@ fn explain<S: OpenShelf, H: Host>(
     closes: bool,
 ) -> Result<Reply, NoMemory>
     ensures keeps { KeepsHub ⟦<WatchedShelf<S, ServerWatch<H>> as Shelf>⟧.stands
-        ⟦<WatchedShelf<S, ServerWatch<H>> as Shelf>⟧.is_honest hub.old hub.new }
+        ⟦<WatchedShelf<S, ServerWatch<H>> as Shelf>⟧.is_honest ⟦<WatchedShelf<S, ServerWatch<H>> as Shelf>⟧.has_round hub.old hub.new }
     ensures tells { IfOk result (TellsWhy ⟦<WatchedShelf<S, ServerWatch<H>> as Shelf>⟧.stands
         ⟦<WatchedShelf<S, ServerWatch<H>> as Shelf>⟧.is_honest
         ⟦<WatchedShelf<S, ServerWatch<H>> as Shelf>⟧.failures hub.old hub.new query.now) }

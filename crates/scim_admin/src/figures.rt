@@ -27,7 +27,7 @@ pub(crate) fn metrics<S: OpenShelf, H: Host>(
     figures: &Figures,
 ) -> Result<String, NoMemory>
     ensures keeps { KeepsShelf ⟦<WatchedShelf<S, ServerWatch<H>> as Shelf>⟧.stands
-        ⟦<WatchedShelf<S, ServerWatch<H>> as Shelf>⟧.is_honest shelf.old shelf.new }
+        ⟦<WatchedShelf<S, ServerWatch<H>> as Shelf>⟧.is_honest ⟦<WatchedShelf<S, ServerWatch<H>> as Shelf>⟧.has_round shelf.old shelf.new }
 {
     let store = StoreFigures {
         uptime: shelf.watcher_mut().uptime(),

@@ -64,7 +64,7 @@ impl Housekeeping {
         shelf: &mut WatchedShelf<S, ServerWatch<H>>,
     ) -> Option<AdminEnding>
         ensures keeps { KeepsShelf ⟦<WatchedShelf<S, ServerWatch<H>> as Shelf>⟧.stands
-            ⟦<WatchedShelf<S, ServerWatch<H>> as Shelf>⟧.is_honest shelf.old shelf.new }
+            ⟦<WatchedShelf<S, ServerWatch<H>> as Shelf>⟧.is_honest ⟦<WatchedShelf<S, ServerWatch<H>> as Shelf>⟧.has_round shelf.old shelf.new }
     {
         if self.were_files_gone {
             return Some(AdminEnding::FilesGone);
@@ -92,7 +92,7 @@ impl Housekeeping {
         shelf: &mut WatchedShelf<S, ServerWatch<H>>,
     ) -> bool
         ensures keeps { KeepsShelf ⟦<WatchedShelf<S, ServerWatch<H>> as Shelf>⟧.stands
-            ⟦<WatchedShelf<S, ServerWatch<H>> as Shelf>⟧.is_honest shelf.old shelf.new }
+            ⟦<WatchedShelf<S, ServerWatch<H>> as Shelf>⟧.is_honest ⟦<WatchedShelf<S, ServerWatch<H>> as Shelf>⟧.has_round shelf.old shelf.new }
     {
         let faults = shelf.watcher().commits().device_faults;
         if faults == self.device_faults {
@@ -113,7 +113,7 @@ impl Housekeeping {
         shelf: &mut WatchedShelf<S, ServerWatch<H>>,
     )
         ensures keeps { KeepsShelf ⟦<WatchedShelf<S, ServerWatch<H>> as Shelf>⟧.stands
-            ⟦<WatchedShelf<S, ServerWatch<H>> as Shelf>⟧.is_honest shelf.old shelf.new }
+            ⟦<WatchedShelf<S, ServerWatch<H>> as Shelf>⟧.is_honest ⟦<WatchedShelf<S, ServerWatch<H>> as Shelf>⟧.has_round shelf.old shelf.new }
     {
         if shelf.resident().is_some() {
             self.was_filled = true;
@@ -160,7 +160,7 @@ impl Housekeeping {
         shelf: &mut WatchedShelf<S, ServerWatch<H>>,
     )
         ensures keeps { KeepsShelf ⟦<WatchedShelf<S, ServerWatch<H>> as Shelf>⟧.stands
-            ⟦<WatchedShelf<S, ServerWatch<H>> as Shelf>⟧.is_honest shelf.old shelf.new }
+            ⟦<WatchedShelf<S, ServerWatch<H>> as Shelf>⟧.is_honest ⟦<WatchedShelf<S, ServerWatch<H>> as Shelf>⟧.has_round shelf.old shelf.new }
     {
         match shelf.fill_cache(alloc) {
             Ok(()) => {

@@ -1,6 +1,6 @@
 //! The bodies that are sent in pieces.
 ghost use Rattle.std.specs.Prelude.{◌≡◌, ◌++◌, [], true, false, IfOk, OnOk, string_bytes};
-ghost use Rattle.scim_shelf.specs.Caches.{HasKeyed};
+ghost use Rattle.scim_shelf_cache.specs.Caches.{HasKeyed};
 ghost use Rattle.scim_shelf.specs.Shelves.{Answers};
 ghost use Rattle.scim_shelf.specs.Stores.{Store};
 ghost use Rattle.scim_admin_streams.specs.Shelves.{KeepsShelf};
@@ -91,7 +91,7 @@ impl Work {
 
     /// Does the next part, and returns its text. After an error the work can't be carried on.
     fn next<S: OpenShelf>(&mut self, alloc: Global, shelf: &mut S) -> Result<String, Cut>
-        ensures keeps { KeepsShelf S.stands S.is_honest shelf.old shelf.new }
+        ensures keeps { KeepsShelf S.stands S.is_honest S.has_round shelf.old shelf.new }
         ensures piece { IfOk result (Answers (HasKeyed S.stands) S.is_honest shelf.old shelf.new
             (λ store text. spec.IsOver self.old store → spec.rest_at self.old store
             ≡ string_bytes text ++ spec.rest_at self.new store)) }
@@ -163,7 +163,7 @@ impl Job {
         shelf: &mut S,
         changes: u64,
     ) -> Result<String, Cut>
-        ensures keeps { KeepsShelf S.stands S.is_honest shelf.old shelf.new }
+        ensures keeps { KeepsShelf S.stands S.is_honest S.has_round shelf.old shelf.new }
         ensures piece { IfOk result (Answers (HasKeyed S.stands) S.is_honest shelf.old shelf.new
             (λ store text. spec.IsOver self.old.work store
             → spec.SendsPiece self.old self.new store (string_bytes text))) }

@@ -92,7 +92,7 @@ impl Admin {
         ensures clients { IsTrue P.is_known → KeepsClients P.seen P.written P.takes_all
             P.is_closed peers.old peers.new }
         ensures reloads { Reloads ⟦<WatchedShelf<S, ServerWatch<H>> as Shelf>⟧.stands
-            ⟦<WatchedShelf<S, ServerWatch<H>> as Shelf>⟧.is_honest H.gives hub.old hub.new }
+            ⟦<WatchedShelf<S, ServerWatch<H>> as Shelf>⟧.is_honest ⟦<WatchedShelf<S, ServerWatch<H>> as Shelf>⟧.has_round H.gives hub.old hub.new }
     {
         let connection = event.connection;
         match &event.kind {
@@ -130,7 +130,7 @@ impl Admin {
         ensures clients { IsTrue P.is_known → KeepsClients P.seen P.written P.takes_all
             P.is_closed peers.old peers.new }
         ensures reloads { Reloads ⟦<WatchedShelf<S, ServerWatch<H>> as Shelf>⟧.stands
-            ⟦<WatchedShelf<S, ServerWatch<H>> as Shelf>⟧.is_honest H.gives hub.old hub.new }
+            ⟦<WatchedShelf<S, ServerWatch<H>> as Shelf>⟧.is_honest ⟦<WatchedShelf<S, ServerWatch<H>> as Shelf>⟧.has_round H.gives hub.old hub.new }
     {
         let Some(mut connection) = self.connections.remove(&number) else {
             return;
@@ -180,7 +180,7 @@ fn step<P: Peers, S: OpenShelf, H: Host>(
     ensures clients { IsTrue P.is_known → KeepsClients P.seen P.written P.takes_all P.is_closed
         peers.old peers.new }
     ensures reloads { Reloads ⟦<WatchedShelf<S, ServerWatch<H>> as Shelf>⟧.stands
-        ⟦<WatchedShelf<S, ServerWatch<H>> as Shelf>⟧.is_honest H.gives hub.old hub.new }
+        ⟦<WatchedShelf<S, ServerWatch<H>> as Shelf>⟧.is_honest ⟦<WatchedShelf<S, ServerWatch<H>> as Shelf>⟧.has_round H.gives hub.old hub.new }
 {
     connection.read(alloc, piece)?;
     match prepare(alloc, peers, hub, standing, connection)? {
@@ -204,7 +204,7 @@ fn prepare<P: Peers, S: OpenShelf, H: Host>(
     ensures clients { IsTrue P.is_known → KeepsClients P.seen P.written P.takes_all P.is_closed
         peers.old peers.new }
     ensures reloads { Reloads ⟦<WatchedShelf<S, ServerWatch<H>> as Shelf>⟧.stands
-        ⟦<WatchedShelf<S, ServerWatch<H>> as Shelf>⟧.is_honest H.gives hub.old hub.new }
+        ⟦<WatchedShelf<S, ServerWatch<H>> as Shelf>⟧.is_honest ⟦<WatchedShelf<S, ServerWatch<H>> as Shelf>⟧.has_round H.gives hub.old hub.new }
 {
     match connection.next() {
         Need::Nothing => Ok(Next::Stay),
@@ -228,7 +228,7 @@ fn carry_on<S: OpenShelf, H: Host>(
     job: Job,
 ) -> Next
     ensures keeps { KeepsShelf ⟦<WatchedShelf<S, ServerWatch<H>> as Shelf>⟧.stands
-        ⟦<WatchedShelf<S, ServerWatch<H>> as Shelf>⟧.is_honest shelf.old shelf.new }
+        ⟦<WatchedShelf<S, ServerWatch<H>> as Shelf>⟧.is_honest ⟦<WatchedShelf<S, ServerWatch<H>> as Shelf>⟧.has_round shelf.old shelf.new }
     ensures continues { result ≡ Next.Offer → Continues
         ⟦<WatchedShelf<S, ServerWatch<H>> as Shelf>⟧.stands
         ⟦<WatchedShelf<S, ServerWatch<H>> as Shelf>⟧.is_honest
@@ -260,7 +260,7 @@ fn reply_to<P: Peers, S: OpenShelf, H: Host>(
     ensures clients { IsTrue P.is_known → KeepsClients P.seen P.written P.takes_all
         P.is_closed peers.old peers.new }
     ensures reloads { Reloads ⟦<WatchedShelf<S, ServerWatch<H>> as Shelf>⟧.stands
-        ⟦<WatchedShelf<S, ServerWatch<H>> as Shelf>⟧.is_honest H.gives hub.old hub.new }
+        ⟦<WatchedShelf<S, ServerWatch<H>> as Shelf>⟧.is_honest ⟦<WatchedShelf<S, ServerWatch<H>> as Shelf>⟧.has_round H.gives hub.old hub.new }
 {
     match item {
         Item::Continue => Ok(Reply {

@@ -24,7 +24,7 @@ fn read_again<S: OpenShelf, H: Host>(
     shelf: &mut WatchedShelf<S, ServerWatch<H>>,
 ) -> Result<Setting, String>
     ensures keeps { KeepsShelf ⟦<WatchedShelf<S, ServerWatch<H>> as Shelf>⟧.stands
-        ⟦<WatchedShelf<S, ServerWatch<H>> as Shelf>⟧.is_honest shelf.old shelf.new }
+        ⟦<WatchedShelf<S, ServerWatch<H>> as Shelf>⟧.is_honest ⟦<WatchedShelf<S, ServerWatch<H>> as Shelf>⟧.has_round shelf.old shelf.new }
     ensures known { IfOk result HasKnownTokens }
     ensures given { IfOk result (λ s. (host : H) × H.gives host s) }
 {
@@ -34,7 +34,7 @@ fn read_again<S: OpenShelf, H: Host>(
 /// Writes a line for the operator.
 pub(crate) fn log<S: OpenShelf, H: Host>(shelf: &mut WatchedShelf<S, ServerWatch<H>>, line: &str)
     ensures keeps { KeepsShelf ⟦<WatchedShelf<S, ServerWatch<H>> as Shelf>⟧.stands
-        ⟦<WatchedShelf<S, ServerWatch<H>> as Shelf>⟧.is_honest shelf.old shelf.new }
+        ⟦<WatchedShelf<S, ServerWatch<H>> as Shelf>⟧.is_honest ⟦<WatchedShelf<S, ServerWatch<H>> as Shelf>⟧.has_round shelf.old shelf.new }
 {
     shelf.watcher_mut().log(line);
 }
@@ -48,7 +48,7 @@ pub(crate) fn reload<S: OpenShelf, H: Host>(
     closes: bool,
 ) -> Result<Reply, NoMemory>
     ensures reloads { Reloads ⟦<WatchedShelf<S, ServerWatch<H>> as Shelf>⟧.stands
-        ⟦<WatchedShelf<S, ServerWatch<H>> as Shelf>⟧.is_honest H.gives hub.old hub.new }
+        ⟦<WatchedShelf<S, ServerWatch<H>> as Shelf>⟧.is_honest ⟦<WatchedShelf<S, ServerWatch<H>> as Shelf>⟧.has_round H.gives hub.old hub.new }
     ensures tells { IfOk result (TellsReload H.gives hub.old hub.new
         admin_tokens.old admin_tokens.new) }
 {
@@ -70,7 +70,7 @@ fn accept<S: OpenShelf, H: Host>(
     closes: bool,
 ) -> Result<Reply, NoMemory>
     ensures keeps { KeepsShelf ⟦<WatchedShelf<S, ServerWatch<H>> as Shelf>⟧.stands
-        ⟦<WatchedShelf<S, ServerWatch<H>> as Shelf>⟧.is_honest shelf.old shelf.new }
+        ⟦<WatchedShelf<S, ServerWatch<H>> as Shelf>⟧.is_honest ⟦<WatchedShelf<S, ServerWatch<H>> as Shelf>⟧.has_round shelf.old shelf.new }
     ensures says { IfOk result (λ reply. (body : List ℕ) × Says Status.Ok body reply) }
 {
     let line = format!(in alloc; "reload: ok, {summary}")?;
@@ -88,7 +88,7 @@ fn reject<S: OpenShelf, H: Host>(
     closes: bool,
 ) -> Result<Reply, NoMemory>
     ensures keeps { KeepsShelf ⟦<WatchedShelf<S, ServerWatch<H>> as Shelf>⟧.stands
-        ⟦<WatchedShelf<S, ServerWatch<H>> as Shelf>⟧.is_honest shelf.old shelf.new }
+        ⟦<WatchedShelf<S, ServerWatch<H>> as Shelf>⟧.is_honest ⟦<WatchedShelf<S, ServerWatch<H>> as Shelf>⟧.has_round shelf.old shelf.new }
     ensures says { IfOk result (λ reply. (body : List ℕ) × Says Status.Conflict body reply) }
 {
     let line = format!(in alloc; "reload: {fault}; the old files stay in force")?;

@@ -8,10 +8,10 @@ use scim_audit::{AuditRow, Decided, print_row};
 use scim_schema::Op;
 use scim_shelf::ShelfFault;
 use scim_shelf_watch::Watcher;
-use scim_text::{Failed, NoMemory};
+use scim_text::{Failed, NoMemory, push};
 use std::alloc::Global;
 
-/// The commit that has begun.
+/// A commit that has begun.
 #[derive(Drop)]
 struct Begun {
     /// The line of the row in the log of the audit.
@@ -27,11 +27,11 @@ struct Begun {
 /// How many commits there were, and how long they took. Each number is 2^64 - 1 at most.
 #[derive(Clone, Copy)]
 pub(crate) struct CommitFigures {
-    /// The number of commits that succeeded.
+    /// The number of commits that succeeded. Those of a round count each.
     pub(crate) done: u64,
     /// The number of commits that failed.
     pub(crate) failed: u64,
-    /// The nanoseconds that all commits took.
+    /// The nanoseconds that all commits took, each from its beginning until its outcome was known.
     pub(crate) nanos: u64,
     /// The number of commits that changed a resource.
     pub(crate) changes: u64,
@@ -48,7 +48,8 @@ pub struct ServerWatch<H> {
     host: H,
     counts: RequestCounts,
     commits: CommitFigures,
-    begun: Option<Begun>,
+    /// The commits that have begun, in order.
+    begun: Vec<Begun>,
     started: u64,
     is_gone: bool,
 }
@@ -81,7 +82,7 @@ impl<H: Host> ServerWatch<H> {
                 changes: 0,
                 device_faults: 0,
             },
-            begun: None,
+            begun: Vec::new(alloc),
             started,
             is_gone: false,
         }
@@ -132,11 +133,30 @@ impl<H: Host> ServerWatch<H> {
     {
         self.host.reload(alloc)
     }
+}
 
+impl CommitFigures {
     /// Adds the time since the commit began.
-    fn measure(&mut self, began: u64) {
-        let now = self.host.nanos();
-        self.commits.nanos = self.commits.nanos.saturating_add(now.saturating_sub(began));
+    fn measure(&mut self, begun: &Begun, now: u64) {
+        self.nanos = self.nanos.saturating_add(now.saturating_sub(begun.nanos));
+    }
+
+    /// Counts a commit that succeeded.
+    fn note_success(&mut self, begun: &Begun, now: u64) {
+        self.measure(begun, now);
+        self.done = self.done.saturating_add(1);
+        if changes(begun.op, begun.decided) {
+            self.changes = self.changes.saturating_add(1);
+        }
+    }
+
+    /// Counts a commit that failed with this fault.
+    fn note_fault(&mut self, begun: &Begun, now: u64, fault: &Failed<ShelfFault>) {
+        self.measure(begun, now);
+        self.failed = self.failed.saturating_add(1);
+        if matches!(fault, Failed::Because(ShelfFault::Device)) {
+            self.device_faults = self.device_faults.saturating_add(1);
+        }
     }
 }
 
@@ -161,11 +181,9 @@ fn begun_at(alloc: Global, nanos: u64, number: u64, row: &AuditRow) -> Result<Be
 impl<H: Host> Watcher for ServerWatch<H> {
     ghost use Rattle.std.specs.Prelude.{⊤};
 
-    ghost told = { λ _ _. ⊤ };
+    ghost told = { λ _ _ _. ⊤ };
 
-    ghost allowed = { λ _ _. ⊤ };
-
-    ghost begun = { λ _ _ _. ⊤ };
+    ghost allowed = { λ _ _ _. ⊤ };
 
     fn allows(&mut self) -> bool {
         !self.is_gone
@@ -175,31 +193,32 @@ impl<H: Host> Watcher for ServerWatch<H> {
         let nanos = self.host.nanos();
         let begun = begun_at(alloc, nanos, number, row)?;
         self.counts.prepare(row.client.as_str())?;
-        self.begun = Some(begun);
-        Ok(())
+        push(&mut self.begun, begun)
     }
 
     fn committed(&mut self) {
-        let Some(begun) = self.begun.take() else {
-            return;
-        };
-        self.measure(begun.nanos);
-        self.host.append(begun.line.as_str());
-        self.counts
-            .count(begun.client.as_str(), begun.op, begun.decided);
-        self.commits.done = self.commits.done.saturating_add(1);
-        if changes(begun.op, begun.decided) {
-            self.commits.changes = self.commits.changes.saturating_add(1);
+        let now = self.host.nanos();
+        for begun in self.begun.as_slice() {
+            self.host.append(begun.line.as_str());
+            self.counts
+                .count(begun.client.as_str(), begun.op, begun.decided);
+            self.commits.note_success(begun, now);
         }
+        self.begun.clear();
     }
 
     fn failed(&mut self, fault: &Failed<ShelfFault>) {
-        if let Some(begun) = self.begun.take() {
-            self.measure(begun.nanos);
+        let now = self.host.nanos();
+        if let Some(begun) = self.begun.pop() {
+            self.commits.note_fault(&begun, now, fault);
         }
-        self.commits.failed = self.commits.failed.saturating_add(1);
-        if matches!(fault, Failed::Because(ShelfFault::Device)) {
-            self.commits.device_faults = self.commits.device_faults.saturating_add(1);
+    }
+
+    fn lost(&mut self, fault: &Failed<ShelfFault>) {
+        let now = self.host.nanos();
+        for begun in self.begun.as_slice() {
+            self.commits.note_fault(begun, now, fault);
         }
+        self.begun.clear();
     }
 }

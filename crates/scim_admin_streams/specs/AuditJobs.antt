@@ -9,7 +9,7 @@ use Rattle.scim_audit_listing.specs.declared.listings.Listing.{Listing}
 use Rattle.scim_audit_listing.specs.Listings.{Numbered, fitting, lines, take_last}
 use Rattle.scim_shelf.specs.declared.faults.ShelfFault.{ShelfFault}
 use Rattle.scim_shelf.specs.Stores.{Store}
-use Rattle.scim_shelf.specs.Shelves.{Answers}
+use Rattle.scim_shelf.specs.Shelves.{Answers, Round}
 use Rattle.scim_admin_text.specs.declared.audit_queries.AuditQuery.{AuditQuery}
 use Rattle.scim_admin_streams.specs.Shelves.{KeepsShelf}
 use Rattle.scim_admin_streams.specs.declared.audit_jobs.AuditJob.{AuditJob}
@@ -74,9 +74,9 @@ KeepsRows old new = (audit : List AuditRow) → HasRows audit old → HasRows au
 -- One part of a listing: for each store that the shelf represents, the text that was to come is the piece that is
 -- returned, and then the text that is to come now. A job that wasn't done has less to do now. After an error the job is
 -- as it was.
-pub record GoesOn {H : Type 0} (Stands : H → Store → Type 0) (IsHonest : H → Type 0) (old new : H)
+pub record GoesOn {H : Type 0} (Stands : H → Store → Type 0) (IsHonest : H → Type 0) (HasRound : H → Round → Type 0) (old new : H)
     (before after : AuditJob) (result : Result (String Global) (Failed ShelfFault)) : Type 0 where
-  pub shelf : KeepsShelf Stands IsHonest old new
+  pub shelf : KeepsShelf Stands IsHonest HasRound old new
   pub piece : IfOk result (Answers Stands IsHonest old new (λ store text. rest_of before store.audit ≡ string_bytes text ++ rest_of after store.audit))
   pub shorter : OnOk result (is_done before ≡ false → IsShorter before after)
   pub rows : KeepsRows before after

@@ -86,7 +86,7 @@ impl AuditJob {
         alloc: Global,
         shelf: &mut S,
     ) -> Result<String, Failed<ShelfFault>>
-        ensures { spec.GoesOn S.stands S.is_honest shelf.old shelf.new self.old self.new result }
+        ensures { spec.GoesOn S.stands S.is_honest S.has_round shelf.old shelf.new self.old self.new result }
     {
         match self.phase {
             Phase::Search(wanted) => self.search(alloc, shelf, wanted),
@@ -110,7 +110,7 @@ impl AuditJob {
         wanted: u64,
     ) -> Result<String, Failed<ShelfFault>>
         requires { self.old.phase ≡ Phase.Search wanted }
-        ensures { spec.GoesOn S.stands S.is_honest shelf.old shelf.new self.old self.new result }
+        ensures { spec.GoesOn S.stands S.is_honest S.has_round shelf.old shelf.new self.old self.new result }
     {
         if self.at <= self.skipped {
             self.phase = Phase::List(self.count);
@@ -138,7 +138,7 @@ impl AuditJob {
         most: u64,
     ) -> Result<String, Failed<ShelfFault>>
         requires { self.old.phase ≡ Phase.List most }
-        ensures { spec.GoesOn S.stands S.is_honest shelf.old shelf.new self.old self.new result }
+        ensures { spec.GoesOn S.stands S.is_honest S.has_round shelf.old shelf.new self.old self.new result }
     {
         let mut text = String::new(alloc);
         if self.at >= self.count {

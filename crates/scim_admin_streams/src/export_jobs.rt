@@ -2,7 +2,7 @@
 ghost use Rattle.std.specs.Prelude.{◌≡◌, ◌≢◌, ◌<◌, ◌≤◌, ◌++◌, [], List, true, false, None, Some, Err, IfOk, OnOk, find, length, string_bytes};
 ghost use Rattle.scim_cell.specs.Content.{Content};
 ghost use Rattle.scim_json.specs.Stored as json;
-ghost use Rattle.scim_shelf.specs.Caches.{HasKeyed};
+ghost use Rattle.scim_shelf_cache.specs.Caches.{HasKeyed};
 ghost use Rattle.scim_shelf.specs.Shelves.{Answers, Counts};
 ghost use Rattle.scim_shelf.specs.Stores.{Store, is_at};
 ghost use Rattle.scim_command_database.specs.Exports.{export_text, users_and_groups};
@@ -110,7 +110,7 @@ pub struct ExportJob {
 impl ExportJob {
     /// Collects what is to be written: all users, and then all groups. Fails if the shelf can't be read.
     pub fn new<S: Shelf>(alloc: Global, shelf: &mut S) -> Result<ExportJob, Failed<ShelfFault>>
-        ensures keeps { KeepsShelf S.stands S.is_honest shelf.old shelf.new }
+        ensures keeps { KeepsShelf S.stands S.is_honest S.has_round shelf.old shelf.new }
         ensures names { IfOk result (Answers S.stands S.is_honest shelf.old shelf.new (λ store job.
             spec.Exports store.resources job)) }
         ensures text { IfOk result (Answers S.stands S.is_honest shelf.old shelf.new (λ store job.
@@ -145,7 +145,7 @@ impl ExportJob {
     /// Fails with `Changed` if one of the next resources is gone, and with `Device` if the shelf can't be read.
     /// After an error the job can't be carried on.
     pub fn next<S: Shelf>(&mut self, alloc: Global, shelf: &mut S) -> Result<String, ExportFault>
-        ensures keeps { KeepsShelf S.stands S.is_honest shelf.old shelf.new }
+        ensures keeps { KeepsShelf S.stands S.is_honest S.has_round shelf.old shelf.new }
         ensures piece { IfOk result (Answers (HasKeyed S.stands) S.is_honest shelf.old shelf.new
             (λ store text. spec.Exports store.resources self.old
             → spec.rest_of self.old store.resources
@@ -176,7 +176,7 @@ impl ExportJob {
         shelf: &mut S,
         text: &mut String,
     ) -> Result<(), ExportFault>
-        ensures keeps { KeepsShelf S.stands S.is_honest shelf.old shelf.new }
+        ensures keeps { KeepsShelf S.stands S.is_honest S.has_round shelf.old shelf.new }
         ensures text { OnOk result ((store : Store) → HasKeyed S.stands shelf.old store
             → S.is_honest shelf.new → spec.Exports store.resources self.old
             → string_bytes text.old
@@ -224,7 +224,7 @@ fn add_document<S: Shelf>(
     named: Named,
     text: &mut String,
 ) -> Result<(), ExportFault>
-    ensures keeps { KeepsShelf S.stands S.is_honest shelf.old shelf.new }
+    ensures keeps { KeepsShelf S.stands S.is_honest S.has_round shelf.old shelf.new }
     ensures document { OnOk result ((store : Store) → S.stands shelf.old store
         → S.is_honest shelf.new → (c : Content)
         × (find (is_at named.kind named.id) store.resources ≡ Some c)

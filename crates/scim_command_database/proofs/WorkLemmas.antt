@@ -13,7 +13,7 @@ use Rattle.scim_command_database.specs.Audit.{SparesStore}
 use Rattle.scim_command_database.specs.Works.{KeepsStoreOf, Reads, program_result}
 
 -- the resources of an opened store are in order and share no unique name
-opened_keyed : (base : List ℕ) (db : Database) (store : Store) → Opens base db store → AreKeyed store.resources
+pub opened_keyed : (base : List ℕ) (db : Database) (store : Store) → Opens base db store → AreKeyed store.resources
 opened_keyed base db store opens = elim opens [
   | inl new ↦ subst (λ (s : Store). AreKeyed s.resources) (sym new.1) keyed_nil
   | inr found ↦ found.1.keyed

@@ -14,7 +14,8 @@ use crate::exporting::export_text;
 use crate::importing::import;
 use crate::works::{of_run, open_store};
 use scim_command::{CommandFault, DEFAULT_BASE, DatabaseFault, RunFault};
-use scim_shelf::{CacheContents, Shelf};
+use scim_shelf::Shelf;
+use scim_shelf_cache::CacheContents;
 use sqlite::{Alter, Connection};
 use std::alloc::Global;
 

@@ -2,7 +2,7 @@
 ghost use Rattle.std.specs.Prelude.{◌≡◌, ◌≢◌, ◌⊎◌, ℕ, [], false, IfOk, IfErr, IsTrue};
 ghost use Rattle.sqlite.specs.Held.{state};
 ghost use Rattle.sqlite.specs.State.{HasCleanDisk, Survives};
-ghost use Rattle.scim_shelf.specs.Caches.{HasCached, HasKeyed, lower_of};
+ghost use Rattle.scim_shelf_cache.specs.Caches.{HasCached, HasKeyed, lower_of};
 ghost use Rattle.scim_shelf.specs.Shelves.{KeepsStore};
 ghost use Rattle.scim_shelf.specs.Stores.{Store};
 ghost use Rattle.scim_store.specs.Shelves.{HasOpened, LeavesBegun, Opens};
@@ -20,7 +20,8 @@ use crate::importing::import;
 use scim_audit_listing::Listing;
 use scim_command::{CommandFault, DEFAULT_BASE, ExportOptions, RunFault};
 use scim_policy::Policy;
-use scim_shelf::{CacheContents, CachedShelf, Shelf};
+use scim_shelf::{BatchShelf, Shelf};
+use scim_shelf_cache::{CacheContents, CachedShelf};
 use scim_store::SqlShelf;
 use scim_text::Failed;
 use sqlite::{Alter, Connection};
@@ -266,12 +267,13 @@ fn contents_for(alloc: Global, has_cache: bool) -> CacheContents
 /// Fills the cache if `has_cache` is true and it isn't filled yet, as after an empty database was opened. If
 /// memory runs out, the cache is unchanged, and reads go to the database. Fails with `Database` if the
 /// resources can't be read.
-fn fill_if<S: Shelf>(
+fn fill_if<S: BatchShelf>(
     alloc: Global,
     shelf: &mut CachedShelf<S>,
     has_cache: bool,
 ) -> Result<(), CommandFault>
     ensures store { KeepsStore (HasKeyed ⟦<CachedShelf<S> as Shelf>⟧.stands) shelf.old shelf.new }
+    ensures lower { KeepsStore S.stands (lower_of shelf.old) (lower_of shelf.new) }
     ensures honest { ⟦<CachedShelf<S> as Shelf>⟧.is_honest shelf.new
         → ⟦<CachedShelf<S> as Shelf>⟧.is_honest shelf.old }
     ensures same { has_cache ≡ false → shelf.new ≡ shelf.old }

@@ -86,7 +86,7 @@ fails_without filter p needs none = elim (cases_Bool (is_match filter p)) [
   | inr n ↦ n
 ]
 
--- a pager has also taken what is made of a resource, if the part wouldn't match
+-- a resource that is made without groups doesn't match a filter that needs them: the page stays as it is, taken or not
 pub taken_skipped : (pager : Pager) (make : Content → Content) (v : Viewer) (parts : List Content) (c : Content) → NeedsGroups pager.query.now.filter → has_groups (rows (make c)) ≡ false
     → HasTaken parts pager → HasTaken (parts ++ and_those (made_part make v c) []) pager
 taken_skipped pager make v parts c needs none was = elim (cases_Bool (sees v c)) [

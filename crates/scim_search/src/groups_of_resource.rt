@@ -35,7 +35,7 @@ pub fn groups_beside<S: Shelf>(
 ) -> Result<ListingGroups, Failed<ShelfFault>>
     ensures groups { IsReadFrom S.stands S.is_honest shelf.old shelf.new result (λ store groups.
         spec.TellGroups (viewer_of viewer.now) store.resources resource.now groups) }
-    ensures read { OnlyReads S.stands S.is_honest S.failures shelf.old shelf.new result }
+    ensures read { OnlyReads S.stands S.is_honest S.failures S.has_round shelf.old shelf.new result }
 {
     let id = resource.id();
     let mut listing = ListingVisitor::new(alloc, viewer, id)?;
@@ -57,7 +57,7 @@ pub(crate) fn gather_groups<S: Shelf>(
         → c.kind ≡ kind → c.id ≡ id
         → Tells v store.resources listing.old → Tells v store.resources listing.new
         × spec.TellGroups v store.resources c listing.new.groups)) }
-    ensures read { OnlyReads S.stands S.is_honest S.failures shelf.old shelf.new result }
+    ensures read { OnlyReads S.stands S.is_honest S.failures S.has_round shelf.old shelf.new result }
 {
     listing.clear(alloc, id);
     match kind {
@@ -80,7 +80,7 @@ fn gather_listing<S: Shelf>(
         → Tells v store.resources listing.old → AreListing v id [] listing.old.groups
         → Tells v store.resources listing.new
         × spec.TellGroups v store.resources c listing.new.groups)) }
-    ensures read { OnlyReads S.stands S.is_honest S.failures shelf.old shelf.new result }
+    ensures read { OnlyReads S.stands S.is_honest S.failures S.has_round shelf.old shelf.new result }
 {
     let mut buffer = [0; Id::TEXT_LENGTH];
     let value = id.write(&mut buffer);
@@ -103,7 +103,7 @@ pub(crate) fn view_beside<S: Shelf>(
         → Tells (viewer_of viewer.now) store.resources listing.new
         × (part ≡ view_with_groups (viewer_of viewer.now)
         (of_kind Kind.Group store.resources) resource.now)) }
-    ensures read { OnlyReads S.stands S.is_honest S.failures shelf.old shelf.new result }
+    ensures read { OnlyReads S.stands S.is_honest S.failures S.has_round shelf.old shelf.new result }
 {
     if !shows_id(patterns) {
         return Ok(None);

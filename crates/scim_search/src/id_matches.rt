@@ -135,7 +135,7 @@ pub(crate) fn page_of_id<S: Shelf>(
     ensures page { IsReadFrom S.stands S.is_honest shelf.old shelf.new result (λ store page.
         IsShownPage (views (viewer_of viewer.now) (of_kind Kind.Group store.resources)
         (those_at patterns.now.kind id store.resources)) query.now page) }
-    ensures read { OnlyReads S.stands S.is_honest S.failures shelf.old shelf.new result }
+    ensures read { OnlyReads S.stands S.is_honest S.failures S.has_round shelf.old shelf.new result }
 {
     let kind = patterns.kind();
     let mut visitor = MatchVisitor {

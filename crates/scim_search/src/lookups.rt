@@ -83,7 +83,7 @@ fn seen_part<S: Shelf>(
     ensures part { IsReadFrom S.stands S.is_honest shelf.old shelf.new result (λ store part.
         and_those part [] ≡ views (viewer_of viewer.now) (of_kind Kind.Group store.resources)
         (of_kind kind (resource.now ∷ []))) }
-    ensures read { OnlyReads S.stands S.is_honest S.failures shelf.old shelf.new result }
+    ensures read { OnlyReads S.stands S.is_honest S.failures S.has_round shelf.old shelf.new result }
 {
     if resource.kind() != kind {
         return Ok(None);
@@ -105,7 +105,7 @@ fn seen_if_found<S: Shelf>(
     ensures part { IsReadFrom S.stands S.is_honest shelf.old shelf.new result (λ store part.
         and_those part [] ≡ views (viewer_of viewer.now) (of_kind Kind.Group store.resources)
         (of_kind kind (and_those found []))) }
-    ensures read { OnlyReads S.stands S.is_honest S.failures shelf.old shelf.new result }
+    ensures read { OnlyReads S.stands S.is_honest S.failures S.has_round shelf.old shelf.new result }
 {
     match found {
         Some(resource) => seen_part(alloc, viewer, shelf, kind, &resource),
@@ -147,7 +147,7 @@ fn page_found<S: Shelf>(
     ensures page { IsReadFrom S.stands S.is_honest shelf.old shelf.new result (λ store page.
         IsShownPage (views (viewer_of viewer.now) (of_kind Kind.Group store.resources)
         (of_kind kind (and_those found []))) query.now page) }
-    ensures read { OnlyReads S.stands S.is_honest S.failures shelf.old shelf.new result }
+    ensures read { OnlyReads S.stands S.is_honest S.failures S.has_round shelf.old shelf.new result }
 {
     let part = seen_if_found(alloc, viewer, shelf, kind, found)?;
     let whole = page_of(alloc, part, query)?;
@@ -168,7 +168,7 @@ pub(crate) fn page_named<S: Shelf>(
     ensures page { IsReadFrom S.stands S.is_honest shelf.old shelf.new result (λ store page.
         IsShownPage (views (viewer_of viewer.now) (of_kind Kind.Group store.resources)
         (of_kind kind store.resources)) query.now page) }
-    ensures read { OnlyReads S.stands S.is_honest S.failures shelf.old shelf.new result }
+    ensures read { OnlyReads S.stands S.is_honest S.failures S.has_round shelf.old shelf.new result }
 {
     let owner = shelf.name_owner(alloc, name)?;
     page_found(alloc, viewer, shelf, kind, owner, query)
@@ -189,7 +189,7 @@ pub(crate) fn page_with_id<S: Shelf>(
     ensures page { IsReadFrom S.stands S.is_honest shelf.old shelf.new result (λ store page.
         IsShownPage (views (viewer_of viewer.now) (of_kind Kind.Group store.resources)
         (of_kind kind store.resources)) query.now page) }
-    ensures read { OnlyReads S.stands S.is_honest S.failures shelf.old shelf.new result }
+    ensures read { OnlyReads S.stands S.is_honest S.failures S.has_round shelf.old shelf.new result }
 {
     let attributes = query.attributes(alloc)?;
     if attributes.contains(&Attribute::Groups) {

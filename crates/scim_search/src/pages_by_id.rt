@@ -77,7 +77,7 @@ fn seen_part<S: Shelf>(
         → Tells (viewer_of viewer.now) store.resources listing.new
         × (part ≡ view_with_groups (viewer_of viewer.now)
         (of_kind Kind.Group store.resources) resource.now)) }
-    ensures read { OnlyReads S.stands S.is_honest S.failures shelf.old shelf.new result }
+    ensures read { OnlyReads S.stands S.is_honest S.failures S.has_round shelf.old shelf.new result }
 {
     match patterns.on_all(resource) {
         Some(own) => view_beside(alloc, viewer, own, listing, shelf, resource),
@@ -104,7 +104,7 @@ fn push_resource<S: Shelf>(
         (λ store _. (base : List ℕ) → IsStore base store
         → spec.TakesViews (viewer_of viewer.now) store.resources (and_those found [])
         listing.old listing.new pager.old pager.new)) }
-    ensures read { OnlyReads S.stands S.is_honest S.failures shelf.old shelf.new result }
+    ensures read { OnlyReads S.stands S.is_honest S.failures S.has_round shelf.old shelf.new result }
 {
     let Some(resource) = found else {
         return Ok(());
@@ -133,7 +133,7 @@ fn push_with_ids<S: Shelf>(
         → spec.TakesViews (viewer_of viewer.now) store.resources
         (spec.at_ids patterns.now.kind ids.now store.resources)
         listing.old listing.new pager.old pager.new)) }
-    ensures read { OnlyReads S.stands S.is_honest S.failures shelf.old shelf.new result }
+    ensures read { OnlyReads S.stands S.is_honest S.failures S.has_round shelf.old shelf.new result }
 {
     match ids {
         [] => Ok(()),
@@ -166,7 +166,7 @@ fn page_of_ids<S: Shelf>(
         IsPage (views (viewer_of viewer.now) (of_kind Kind.Group store.resources)
         (filter (λ c. has_id ids.now c.id) (of_kind patterns.now.kind store.resources)))
         query.now page) }
-    ensures read { OnlyReads S.stands S.is_honest S.failures shelf.old shelf.new result }
+    ensures read { OnlyReads S.stands S.is_honest S.failures S.has_round shelf.old shelf.new result }
 {
     let listed = in_order(alloc, ids)?;
     let ids = listed.as_slice();
@@ -188,8 +188,8 @@ fn page_of_ids<S: Shelf>(
 }
 
 /// Returns the page of the client's query over the resources of a kind, with whole items, where each match must have
-/// one of the texts at its leaf. If no resource of the kind can match, none is read. Otherwise only the resources that have one of the
-/// texts, those whose ids are found by the texts, and the groups that list them are read.
+/// one of the texts at its leaf. If no resource of the kind can match, none is read. Otherwise only the resources that
+/// have one of the texts, those whose ids are found by the texts, and the groups that list them are read.
 ///
 /// Fails with the errors of the shelf.
 fn whole_page_of_texts<S: Shelf>(
@@ -205,7 +205,7 @@ fn whole_page_of_texts<S: Shelf>(
     ensures page { IsReadFrom S.stands S.is_honest shelf.old shelf.new result (λ store page.
         IsPage (views (viewer_of viewer.now) (of_kind Kind.Group store.resources)
         (of_kind kind store.resources)) query.now page) }
-    ensures read { OnlyReads S.stands S.is_honest S.failures shelf.old shelf.new result }
+    ensures read { OnlyReads S.stands S.is_honest S.failures S.has_round shelf.old shelf.new result }
 {
     let patterns = ReadPatterns::of(alloc, viewer, kind)?;
     if !patterns.may_find(query) {
@@ -234,7 +234,7 @@ pub(crate) fn page_of_texts<S: Shelf>(
     ensures page { IsReadFrom S.stands S.is_honest shelf.old shelf.new result (λ store page.
         IsShownPage (views (viewer_of viewer.now) (of_kind Kind.Group store.resources)
         (of_kind kind store.resources)) query.now page) }
-    ensures read { OnlyReads S.stands S.is_honest S.failures shelf.old shelf.new result }
+    ensures read { OnlyReads S.stands S.is_honest S.failures S.has_round shelf.old shelf.new result }
 {
     let whole = whole_page_of_texts(alloc, viewer, shelf, kind, texts, query)?;
     Ok(shown_page(alloc, whole, &query.wanted)?)

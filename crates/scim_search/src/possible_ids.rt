@@ -106,7 +106,7 @@ fn with_members<S: Shelf>(
 ) -> Result<BTreeSet<Id>, Failed<ShelfFault>>
     ensures ids { IsReadFrom S.stands S.is_honest shelf.old shelf.new result (λ store new.
         spec.Gathers Kind.User store.resources spec.group_leaf text.now ids new) }
-    ensures read { OnlyReads S.stands S.is_honest S.failures shelf.old shelf.new result }
+    ensures read { OnlyReads S.stands S.is_honest S.failures S.has_round shelf.old shelf.new result }
 {
     let Some(group) = Id::read(text) else {
         return Ok(ids);
@@ -129,7 +129,7 @@ fn with_owner<S: Shelf>(
     requires { is_at (unique.unique_leaves kind) needed ≡ true }
     ensures ids { IsReadFrom S.stands S.is_honest shelf.old shelf.new result (λ store new.
         spec.Gathers kind store.resources needed.entry.leaf needed.entry.text.now ids new) }
-    ensures read { OnlyReads S.stands S.is_honest S.failures shelf.old shelf.new result }
+    ensures read { OnlyReads S.stands S.is_honest S.failures S.has_round shelf.old shelf.new result }
 {
     let name = known_name(alloc, needed.leaf, needed.text)?;
     let owner = shelf.name_owner(alloc, &name)?;
@@ -182,7 +182,7 @@ fn with_holders<S: Shelf>(
 ) -> Result<BTreeSet<Id>, Failed<ShelfFault>>
     ensures ids { IsReadFrom S.stands S.is_honest shelf.old shelf.new result (λ store new.
         spec.GathersSome kind store.resources (spec.indexed_of kind texts.now) ids new) }
-    ensures read { OnlyReads S.stands S.is_honest S.failures shelf.old shelf.new result }
+    ensures read { OnlyReads S.stands S.is_honest S.failures S.has_round shelf.old shelf.new result }
 {
     let own = indexed_texts(alloc, kind, texts)?;
     let indexed = own.as_slice();
@@ -216,7 +216,7 @@ fn with_text<S: Shelf>(
     ensures ids { IsReadFrom S.stands S.is_honest shelf.old shelf.new result (λ store new.
         spec.GathersSome kind store.resources
         (spec.others_of kind (needed.entry ∷ [])) ids new) }
-    ensures read { OnlyReads S.stands S.is_honest S.failures shelf.old shelf.new result }
+    ensures read { OnlyReads S.stands S.is_honest S.failures S.has_round shelf.old shelf.new result }
 {
     if is_among(needed.leaf, indexed_leaves(kind)) {
         return Ok(ids);
@@ -244,7 +244,7 @@ fn with_texts<S: Shelf>(
     requires { AreAt (spec.possible_leaves kind) texts.now }
     ensures ids { IsReadFrom S.stands S.is_honest shelf.old shelf.new result (λ store new.
         spec.GathersSome kind store.resources (spec.others_of kind texts.now) ids new) }
-    ensures read { OnlyReads S.stands S.is_honest S.failures shelf.old shelf.new result }
+    ensures read { OnlyReads S.stands S.is_honest S.failures S.has_round shelf.old shelf.new result }
 {
     match texts {
         [] => Ok(ids),
@@ -269,7 +269,7 @@ pub(crate) fn possible_ids<S: Shelf>(
     requires { AreAt (spec.possible_leaves kind) texts.now }
     ensures ids { IsReadFrom S.stands S.is_honest shelf.old shelf.new result (λ store ids.
         spec.HasAll kind store.resources (λ p. has_some_text texts.now (rows p)) ids) }
-    ensures read { OnlyReads S.stands S.is_honest S.failures shelf.old shelf.new result }
+    ensures read { OnlyReads S.stands S.is_honest S.failures S.has_round shelf.old shelf.new result }
 {
     let ids = with_texts(alloc, shelf, kind, texts, BTreeSet::new(alloc))?;
     with_holders(alloc, shelf, kind, texts, ids)

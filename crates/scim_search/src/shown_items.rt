@@ -152,7 +152,7 @@ fn gather_shown<S: Shelf>(
         → Tells v store.resources listing.old
         → Tells v store.resources listing.new
         × spec.TellShownGroups v builder.entry.wanted.now store.resources c listing.new.groups)) }
-    ensures read { OnlyReads S.stands S.is_honest S.failures shelf.old shelf.new result }
+    ensures read { OnlyReads S.stands S.is_honest S.failures S.has_round shelf.old shelf.new result }
 {
     let wanted = builder.wanted;
     if wanted.shows_attribute(builder.kind, Attribute::Groups) {
@@ -193,7 +193,7 @@ fn push_item<S: Shelf>(
         × (items.new.items ≡ items.old.items
         ++ spec.item (viewer_of builder.entry.viewer.now) builder.entry.wanted.now
         (of_kind Kind.Group store.resources) x.own ∷ []))) }
-    ensures read { OnlyReads S.stands S.is_honest S.failures shelf.old shelf.new result }
+    ensures read { OnlyReads S.stands S.is_honest S.failures S.has_round shelf.old shelf.new result }
 {
     gather_shown(alloc, builder, listing, shelf, id)?;
     let mut visitor = ItemVisitor {
@@ -225,7 +225,7 @@ fn push_items<S: Shelf>(
         → items.new.items ≡ items.old.items
         ++ map (λ x. spec.item (viewer_of builder.entry.viewer.now) builder.entry.wanted.now
         (of_kind Kind.Group store.resources) x.own) found)) }
-    ensures read { OnlyReads S.stands S.is_honest S.failures shelf.old shelf.new result }
+    ensures read { OnlyReads S.stands S.is_honest S.failures S.has_round shelf.old shelf.new result }
 {
     match parts {
         [] => Ok(()),
@@ -248,7 +248,7 @@ pub(crate) fn shown_items<S: Shelf>(
         spec.IsItemBuilder store.resources builder.entry
         → spec.AreItems (viewer_of builder.entry.viewer.now) builder.entry.wanted.now
         builder.entry.kind store.resources parts.now items.items) }
-    ensures read { OnlyReads S.stands S.is_honest S.failures shelf.old shelf.new result }
+    ensures read { OnlyReads S.stands S.is_honest S.failures S.has_round shelf.old shelf.new result }
 {
     let [first, ..] = parts else {
         return Ok(Vec::new(alloc));

@@ -9,7 +9,8 @@ ghost use Rattle.scim_query.specs.Pagers.{HasTaken, ComeInOrder, query_of};
 ghost use Rattle.scim_search.specs.ReadPatterns.{ArePatterns};
 ghost use Rattle.scim_view.specs.Listings.{AreListing};
 ghost use Rattle.scim_search.specs.PatternCache.{Recalls};
-ghost use Rattle.scim_search.specs.Visits.{SkipsOnlyUnmatched, TakesGroup, TakesListing, TakesResource, Tells};
+ghost use Rattle.scim_search.specs.Visits.{SkipsOnlyUnmatched, TakesGroup, TakesListing};
+ghost use Rattle.scim_search.specs.Visits.{TakesResource, Tells};
 
 use crate::pattern_cache::PatternCache;
 use crate::read_patterns::ReadPatterns;

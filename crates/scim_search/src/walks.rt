@@ -88,7 +88,7 @@ impl<'a> Walk<'a> {
             → S.is_honest shelf.new
             → FoldsTo TakesResource visitor.old (spec.walked self.now store.resources)
             visitor.new) }
-        ensures read { OnlyReads S.stands S.is_honest S.failures shelf.old shelf.new result }
+        ensures read { OnlyReads S.stands S.is_honest S.failures S.has_round shelf.old shelf.new result }
     {
         match &self.scope {
             WalkScope::WholeKind => shelf.each(alloc, self.kind, visitor),
@@ -107,7 +107,7 @@ fn seen_groups<S: Shelf>(
 ) -> Result<GroupIndex, Failed<ShelfFault>>
     ensures index { IfOk result (Answers S.stands S.is_honest shelf.old shelf.new (λ store index.
         IsIndexOf (viewer_of viewer.now) (of_kind Kind.Group store.resources) index)) }
-    ensures read { OnlyReads S.stands S.is_honest S.failures shelf.old shelf.new result }
+    ensures read { OnlyReads S.stands S.is_honest S.failures S.has_round shelf.old shelf.new result }
 {
     let mut groups = GroupVisitor::new(alloc, viewer)?;
     shelf.each(alloc, Kind::Group, &mut groups)?;
@@ -124,7 +124,7 @@ fn groups_for<S: Shelf>(
 ) -> Result<GroupIndex, Failed<ShelfFault>>
     ensures index { IfOk result (Answers S.stands S.is_honest shelf.old shelf.new (λ store index.
         spec.IndexTells (viewer_of viewer.now) kind store.resources index)) }
-    ensures read { OnlyReads S.stands S.is_honest S.failures shelf.old shelf.new result }
+    ensures read { OnlyReads S.stands S.is_honest S.failures S.has_round shelf.old shelf.new result }
 {
     match kind {
         Kind::User => seen_groups(alloc, viewer, shelf),
@@ -148,7 +148,7 @@ fn page_made<'a, S: Shelf>(
         found.page
         × Recalls (viewer_of builder.entry.viewer.now) walk.now.kind store.resources
         found.cached)) }
-    ensures read { OnlyReads S.stands S.is_honest S.failures shelf.old shelf.new result }
+    ensures read { OnlyReads S.stands S.is_honest S.failures S.has_round shelf.old shelf.new result }
 {
     let mut search = SearchVisitor::new(alloc, builder, query);
     walk.show(alloc, shelf, &mut search)?;
@@ -169,7 +169,7 @@ fn page_by_groups<S: Shelf>(
     ensures page { IsReadFrom S.stands S.is_honest shelf.old shelf.new result (λ store page.
         IsShownPage (views (viewer_of viewer.now) (of_kind Kind.Group store.resources)
         (spec.walked walk.now store.resources)) query.now page) }
-    ensures read { OnlyReads S.stands S.is_honest S.failures shelf.old shelf.new result }
+    ensures read { OnlyReads S.stands S.is_honest S.failures S.has_round shelf.old shelf.new result }
 {
     let index = groups_for(alloc, viewer, shelf, walk.kind)?;
     let builder = ViewBuilder::new(viewer, patterns, ViewScope::Whole(&index));
@@ -194,7 +194,7 @@ fn page_by_named<S: Shelf>(
     ensures page { IsReadFrom S.stands S.is_honest shelf.old shelf.new result (λ store page.
         IsShownPage (views (viewer_of viewer.now) (of_kind Kind.Group store.resources)
         (spec.walked walk.now store.resources)) query.now page) }
-    ensures read { OnlyReads S.stands S.is_honest S.failures shelf.old shelf.new result }
+    ensures read { OnlyReads S.stands S.is_honest S.failures S.has_round shelf.old shelf.new result }
 {
     let builder = ViewBuilder::new(viewer, patterns, ViewScope::Named(attributes));
     let found = page_made(alloc, builder, shelf, walk, query)?;
@@ -223,7 +223,7 @@ pub(crate) fn page_of_walk<S: Shelf>(
     ensures page { IsReadFrom S.stands S.is_honest shelf.old shelf.new result (λ store page.
         IsShownPage (views (viewer_of viewer.now) (of_kind Kind.Group store.resources)
         (spec.walked walk.now store.resources)) query.now page) }
-    ensures read { OnlyReads S.stands S.is_honest S.failures shelf.old shelf.new result }
+    ensures read { OnlyReads S.stands S.is_honest S.failures S.has_round shelf.old shelf.new result }
 {
     let patterns = ReadPatterns::of(alloc, viewer, walk.kind)?;
     if !patterns.may_find(query) {

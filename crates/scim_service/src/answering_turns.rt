@@ -3,7 +3,7 @@ ghost use Rattle.std.specs.Prelude.{◌≡◌, ◌≢◌, ◌≤◌, ℕ, List, 
 ghost use Rattle.scim_text.specs.declared.memory.Failed.{Failed};
 ghost use Rattle.scim_view.specs.View.{viewer_of};
 ghost use Rattle.scim_shelf.specs.declared.faults.ShelfFault.{ShelfFault};
-ghost use Rattle.scim_shelf.specs.Shelves.{Counts, KeepsStore, Answers};
+ghost use Rattle.scim_shelf.specs.Shelves.{Counts, KeepsRound, KeepsStore, Answers};
 ghost use Rattle.scim_shelf.specs.Stores.{Store, IsStore, after, last_number};
 ghost use Rattle.scim_service.specs.Step as spec;
 ghost use Rattle.scim_service.specs.Answers.{IsCause, Answered, Runs};
@@ -66,6 +66,7 @@ fn answer_or_fault<S: Shelf>(
         (spec.request_plan (viewer_of viewer.now) turn.now store.resources turn.now.request.ask).row
         store))) }
     ensures err { OnErr result (KeepsStore S.stands shelf.old shelf.new) }
+    ensures round { KeepsRound S.has_round shelf.old shelf.new }
     ensures honest { S.is_honest shelf.new → S.is_honest shelf.old }
     ensures counts { Counts (S.failures shelf.old) (S.failures shelf.new) result }
     ensures full { result ≡ Err (Failed.Because ShelfFault.Full) → (store : Store)
@@ -108,6 +109,7 @@ impl<S: Shelf> Service<S> {
             (IsCause (S.failures (service_shelf self.old))
             (S.failures (service_shelf self.new)) store) turn.now store
             result next }
+        ensures round { KeepsRound S.has_round (service_shelf self.old) (service_shelf self.new) }
         ensures honest { S.is_honest (service_shelf self.new)
             → S.is_honest (service_shelf self.old) }
         ensures grown { S.failures (service_shelf self.old) ≤ S.failures (service_shelf self.new) }
@@ -139,6 +141,7 @@ impl<S: Shelf> Service<S> {
             × Runs (service_policy self.old) (service_base self.old)
             (S.failures (service_shelf self.old)) store turns.now
             replies.items (S.failures (service_shelf self.new)) next) }
+        ensures round { KeepsRound S.has_round (service_shelf self.old) (service_shelf self.new) }
         ensures honest { S.is_honest (service_shelf self.new)
             → S.is_honest (service_shelf self.old) }
         ensures grown { S.failures (service_shelf self.old) ≤ S.failures (service_shelf self.new) }

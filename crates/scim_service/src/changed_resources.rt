@@ -76,7 +76,7 @@ fn refusal_to_change<S: Shelf>(
     ensures refusal { IsReadFrom S.stands S.is_honest shelf.old shelf.new result (λ store refusal.
         IsRefusalToChange (viewer_of viewer.now) turn.now store.resources
         (access_in before.now) resource.now refusal) }
-    ensures read { OnlyReads S.stands S.is_honest S.failures shelf.old shelf.new result }
+    ensures read { OnlyReads S.stands S.is_honest S.failures S.has_round shelf.old shelf.new result }
 {
     if has_taken_name(alloc, shelf, &Some(resource.id()), resource)? {
         let plan = refused(alloc, turn, Refusal::Taken)?;
@@ -107,7 +107,7 @@ pub(crate) fn plan_changed<S: Shelf>(
         AreOf changed.resource.kind changed.resource.id store.resources
         → plan ≡ spec.unique_change_plan (viewer_of viewer.now) turn.now store.resources wanted.now
         (access_in rights.now) changed.changed changed.resource) }
-    ensures read { OnlyReads S.stands S.is_honest S.failures shelf.old shelf.new result }
+    ensures read { OnlyReads S.stands S.is_honest S.failures S.has_round shelf.old shelf.new result }
 {
     let after = viewer
         .policy

@@ -70,7 +70,7 @@ fn first_denied(decisions: &Decisions, draft: &Draft) -> Option<Leaf>
 fn has_used_id<S: Shelf>(alloc: Global, shelf: &mut S, id: Id) -> Result<bool, Failed<ShelfFault>>
     ensures answer { IfOk result (Answers S.stands S.is_honest shelf.old shelf.new (λ store b. b
         ≡ is_used store.resources id)) }
-    ensures read { OnlyReads S.stands S.is_honest S.failures shelf.old shelf.new result }
+    ensures read { OnlyReads S.stands S.is_honest S.failures S.has_round shelf.old shelf.new result }
 {
     let user = shelf.by_id(alloc, Kind::User, id)?;
     if user.is_some() {
@@ -120,7 +120,7 @@ fn refusal_to_make<S: Shelf>(
     ensures refusal { IfOk result (Answers S.stands S.is_honest shelf.old shelf.new
         (λ store refusal. (base : List ℕ) (viewer : view.Viewer) → IsStore base store
         → IsRefusalToMake viewer turn.now store.resources resource.now refusal)) }
-    ensures read { OnlyReads S.stands S.is_honest S.failures shelf.old shelf.new result }
+    ensures read { OnlyReads S.stands S.is_honest S.failures S.has_round shelf.old shelf.new result }
 {
     if has_taken_name(alloc, shelf, &None, resource)? {
         let plan = refused(alloc, turn, Refusal::Taken)?;
@@ -149,7 +149,7 @@ fn plan_if_free<S: Shelf>(
     ensures plan { IsReadFrom S.stands S.is_honest shelf.old shelf.new result (λ store plan. plan
         ≡ spec.unique_creation_plan
         (viewer_of viewer.now) turn.now store.resources wanted.now resource) }
-    ensures read { OnlyReads S.stands S.is_honest S.failures shelf.old shelf.new result }
+    ensures read { OnlyReads S.stands S.is_honest S.failures S.has_round shelf.old shelf.new result }
 {
     let refusal = refusal_to_make(alloc, shelf, turn, &resource)?;
     if let Some(plan) = refusal {
@@ -173,7 +173,7 @@ pub(crate) fn plan_create<S: Shelf>(
 ) -> Result<Plan, Failed<ShelfFault>>
     ensures plan { IsReadFrom S.stands S.is_honest shelf.old shelf.new result (λ store plan. plan
         ≡ spec.creation_plan (viewer_of viewer.now) turn.now store.resources draft.now wanted.now) }
-    ensures read { OnlyReads S.stands S.is_honest S.failures shelf.old shelf.new result }
+    ensures read { OnlyReads S.stands S.is_honest S.failures S.has_round shelf.old shelf.new result }
 {
     if !is_for(turn, draft) {
         return Ok(refused(alloc, turn, Refusal::MessageValue)?);

@@ -109,7 +109,7 @@ fn plan_show<S: Shelf>(
         ≡ spec.plan_for_seen (viewer_of viewer.now) turn.now
         (spec.get_plan (viewer_of viewer.now) turn.now store.resources wanted.now)
         (Some resource.now)) }
-    ensures read { OnlyReads S.stands S.is_honest S.failures shelf.old shelf.new result }
+    ensures read { OnlyReads S.stands S.is_honest S.failures S.has_round shelf.old shelf.new result }
 {
     let patterns = viewer.patterns(alloc, resource)?;
     let seen = patterns.whole(Leaf::simple(Attribute::Id));
@@ -134,7 +134,7 @@ fn plan_outcome<S: Shelf>(
         (found : Option Content) → IsLent (viewer_of viewer.now) wanted.now found outcome
         → plan ≡ spec.plan_for_seen (viewer_of viewer.now) turn.now
         (spec.get_plan (viewer_of viewer.now) turn.now store.resources wanted.now) found) }
-    ensures read { OnlyReads S.stands S.is_honest S.failures shelf.old shelf.new result }
+    ensures read { OnlyReads S.stands S.is_honest S.failures S.has_round shelf.old shelf.new result }
 {
     match outcome {
         None => Ok(absent(alloc, turn)?),
@@ -157,7 +157,7 @@ pub(crate) fn plan_get<S: Shelf>(
         ≡ spec.plan_for_seen (viewer_of viewer.now) turn.now
         (spec.get_plan (viewer_of viewer.now) turn.now store.resources wanted.now)
         (spec.sought_resource turn.now store.resources)) }
-    ensures read { OnlyReads S.stands S.is_honest S.failures shelf.old shelf.new result }
+    ensures read { OnlyReads S.stands S.is_honest S.failures S.has_round shelf.old shelf.new result }
 {
     let Some(id) = turn.request.id else {
         return Ok(absent(alloc, turn)?);

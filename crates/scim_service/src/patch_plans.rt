@@ -71,7 +71,7 @@ fn plan_allowed<S: Shelf>(
         AreOf resource.kind resource.id store.resources
         → plan ≡ spec.decided_patch_plan (viewer_of viewer.now) turn.now store.resources
         (patch_of patch.now) wanted.now resource None) }
-    ensures read { OnlyReads S.stands S.is_honest S.failures shelf.old shelf.new result }
+    ensures read { OnlyReads S.stands S.is_honest S.failures S.has_round shelf.old shelf.new result }
 {
     match apply(alloc, resource, patch, turn.moment) {
         Ok(changed) => plan_changed(alloc, viewer, shelf, turn, wanted, rights, changed),
@@ -98,7 +98,7 @@ fn plan_seen<S: Shelf>(
         AreOf resource.kind resource.id store.resources
         → plan ≡ spec.patch_plan (viewer_of viewer.now) turn.now store.resources
         (patch_of patch.now) wanted.now resource) }
-    ensures read { OnlyReads S.stands S.is_honest S.failures shelf.old shelf.new result }
+    ensures read { OnlyReads S.stands S.is_honest S.failures S.has_round shelf.old shelf.new result }
 {
     if patch.kind() != resource.kind() {
         return Ok(refused(alloc, turn, Refusal::MessageValue)?);
@@ -123,7 +123,7 @@ pub(crate) fn plan_patch<S: Shelf>(
         ≡ spec.plan_for_seen (viewer_of viewer.now) turn.now
         (spec.patch_plan (viewer_of viewer.now) turn.now store.resources
         (patch_of patch.now) wanted.now) (spec.sought_resource turn.now store.resources)) }
-    ensures read { OnlyReads S.stands S.is_honest S.failures shelf.old shelf.new result }
+    ensures read { OnlyReads S.stands S.is_honest S.failures S.has_round shelf.old shelf.new result }
 {
     let reached = reach(alloc, viewer, shelf, turn)?;
     match reached {

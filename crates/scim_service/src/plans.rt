@@ -194,7 +194,7 @@ pub(crate) fn found<S: Shelf>(
 ) -> Result<Option<Resource>, Failed<ShelfFault>>
     ensures answer { IfOk result (Answers S.stands S.is_honest shelf.old shelf.new (λ store o. o
         ≡ spec.sought_resource turn.now store.resources)) }
-    ensures read { OnlyReads S.stands S.is_honest S.failures shelf.old shelf.new result }
+    ensures read { OnlyReads S.stands S.is_honest S.failures S.has_round shelf.old shelf.new result }
 {
     match turn.request.id {
         Some(id) => shelf.by_id(alloc, turn.request.kind, id),
@@ -238,7 +238,7 @@ pub(crate) fn seen_text<S: Shelf>(
     ensures text { IsReadFrom S.stands S.is_honest shelf.old shelf.new result (λ store text. text
         ≡ spec.resource_text (viewer_of viewer.now)
         (of_kind Kind.Group store.resources) wanted.now resource.now) }
-    ensures read { OnlyReads S.stands S.is_honest S.failures shelf.old shelf.new result }
+    ensures read { OnlyReads S.stands S.is_honest S.failures S.has_round shelf.old shelf.new result }
 {
     if !wanted.shows_groups(resource) {
         let none = ListingGroups::new(alloc, resource.id());
@@ -265,7 +265,7 @@ pub(crate) fn kept_text<S: Shelf>(
     ensures text { IsReadFrom S.stands S.is_honest shelf.old shelf.new result (λ store text.
         AreOf resource.now.kind resource.now.id store.resources
         → text ≡ spec.kept_text (viewer_of viewer.now) store.resources wanted.now resource.now) }
-    ensures read { OnlyReads S.stands S.is_honest S.failures shelf.old shelf.new result }
+    ensures read { OnlyReads S.stands S.is_honest S.failures S.has_round shelf.old shelf.new result }
 {
     if !shows_id(patterns) {
         return Ok(None);
@@ -334,7 +334,7 @@ fn plan_remove<S: Shelf>(
         plan ≡ spec.plan_for_seen (viewer_of viewer.now) turn.now
         (spec.removal_plan (viewer_of viewer.now) turn.now)
         (spec.sought_resource turn.now store.resources))) }
-    ensures read { OnlyReads S.stands S.is_honest S.failures shelf.old shelf.new result }
+    ensures read { OnlyReads S.stands S.is_honest S.failures S.has_round shelf.old shelf.new result }
 {
     let Some(resource) = found(alloc, shelf, turn)? else {
         return Ok(absent(alloc, turn)?);
@@ -363,7 +363,7 @@ fn plan_search<S: Shelf>(
 ) -> Result<Plan, Failed<ShelfFault>>
     ensures plan { IsReadFrom S.stands S.is_honest shelf.old shelf.new result (λ store plan. plan
         ≡ spec.search_plan (viewer_of viewer.now) turn.now store.resources query.now) }
-    ensures read { OnlyReads S.stands S.is_honest S.failures shelf.old shelf.new result }
+    ensures read { OnlyReads S.stands S.is_honest S.failures S.has_round shelf.old shelf.new result }
 {
     let page = page_of_query(alloc, viewer, shelf, turn.request.kind, query)?;
     let text = list_text(alloc, &page)?;
@@ -390,7 +390,7 @@ pub(crate) fn planned<S: Shelf>(
 ) -> Result<Plan, Failed<ShelfFault>>
     ensures plan { IsReadFrom S.stands S.is_honest shelf.old shelf.new result (λ store plan. plan
         ≡ spec.request_plan (viewer_of viewer.now) turn.now store.resources turn.now.request.ask) }
-    ensures read { OnlyReads S.stands S.is_honest S.failures shelf.old shelf.new result }
+    ensures read { OnlyReads S.stands S.is_honest S.failures S.has_round shelf.old shelf.new result }
 {
     match &turn.request.ask {
         Ok(Ask::Get(wanted)) => plan_get(alloc, viewer, shelf, turn, wanted),

@@ -154,7 +154,7 @@ fn plan_allowed<S: Shelf>(
         AreOf resource.kind resource.id store.resources
         → plan ≡ spec.decided_replacement_plan
         (viewer_of viewer.now) turn.now store.resources draft.now wanted.now resource None) }
-    ensures read { OnlyReads S.stands S.is_honest S.failures shelf.old shelf.new result }
+    ensures read { OnlyReads S.stands S.is_honest S.failures S.has_round shelf.old shelf.new result }
 {
     let kind = resource.kind();
     let writable = writable_of(alloc, rights, kind, units(kind))?;
@@ -182,7 +182,7 @@ fn plan_seen<S: Shelf>(
         AreOf resource.kind resource.id store.resources
         → plan ≡ spec.replacement_plan
         (viewer_of viewer.now) turn.now store.resources draft.now wanted.now resource) }
-    ensures read { OnlyReads S.stands S.is_honest S.failures shelf.old shelf.new result }
+    ensures read { OnlyReads S.stands S.is_honest S.failures S.has_round shelf.old shelf.new result }
 {
     if draft.kind() != resource.kind() {
         return Ok(refused(alloc, turn, Refusal::MessageValue)?);
@@ -207,7 +207,7 @@ pub(crate) fn plan_replace<S: Shelf>(
         ≡ spec.plan_for_seen (viewer_of viewer.now) turn.now
         (spec.replacement_plan (viewer_of viewer.now) turn.now store.resources draft.now wanted.now)
         (spec.sought_resource turn.now store.resources)) }
-    ensures read { OnlyReads S.stands S.is_honest S.failures shelf.old shelf.new result }
+    ensures read { OnlyReads S.stands S.is_honest S.failures S.has_round shelf.old shelf.new result }
 {
     let reached = reach(alloc, viewer, shelf, turn)?;
     match reached {

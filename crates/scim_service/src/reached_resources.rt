@@ -35,7 +35,7 @@ pub(crate) fn reach<'p, S: Shelf>(
     ensures answer { IsReadFrom S.stands S.is_honest shelf.old shelf.new result (λ store it.
         IsReached (viewer_of viewer.now) turn.now store.resources it) }
     ensures rights { IfOk result (HasRights (viewer_of viewer.now)) }
-    ensures read { OnlyReads S.stands S.is_honest S.failures shelf.old shelf.new result }
+    ensures read { OnlyReads S.stands S.is_honest S.failures S.has_round shelf.old shelf.new result }
 {
     let Some(resource) = found(alloc, shelf, turn)? else {
         let plan = absent(alloc, turn)?;

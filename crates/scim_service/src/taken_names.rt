@@ -35,7 +35,7 @@ fn any_taken<S: Shelf>(
     ensures answer { IsReadFrom S.stands S.is_honest shelf.old shelf.new result (λ store b. b
         ≡ list_any (λ n. list_any (has_name n) (spec.beside own.now store.resources))
         (map name_of names.now)) }
-    ensures read { OnlyReads S.stands S.is_honest S.failures shelf.old shelf.new result }
+    ensures read { OnlyReads S.stands S.is_honest S.failures S.has_round shelf.old shelf.new result }
 {
     match names {
         [] => Ok(false),
@@ -59,7 +59,7 @@ pub(crate) fn has_taken_name<S: Shelf>(
 ) -> Result<bool, Failed<ShelfFault>>
     ensures answer { IsReadFrom S.stands S.is_honest shelf.old shelf.new result (λ store b. b
         ≡ is_taken (spec.beside own.now store.resources) new.now) }
-    ensures read { OnlyReads S.stands S.is_honest S.failures shelf.old shelf.new result }
+    ensures read { OnlyReads S.stands S.is_honest S.failures S.has_round shelf.old shelf.new result }
 {
     let names = unique_names(alloc, new)?;
     any_taken(alloc, shelf, own, names.as_slice())

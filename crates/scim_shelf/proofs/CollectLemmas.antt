@@ -13,11 +13,9 @@ use Rattle.scim_schema.specs.contracts.Kind.{the_type as the_kind}
 use Rattle.scim_cell.specs.Content.{Content}
 use Rattle.scim_cell.specs.Kinds.{is_of, of_kind}
 use Rattle.scim_value.specs.Uniqueness.{AreApart}
-use Rattle.scim_shelf.specs.declared.copies.CacheContents.{CacheContents}
 use Rattle.scim_shelf.specs.declared.copies.Collecting.{Collecting}
 use Rattle.scim_shelf.specs.Stores.{AreKeyed, HasPlace, keep}
 use Rattle.scim_shelf.specs.Collections.{IsCollection}
-use Rattle.scim_shelf.specs.Caches.{Caches, HasCached}
 use Rattle.scim_shelf.specs.code.Copies.{Keeps}
 use Rattle.scim_shelf.proofs.PlaceLemmas.{AreAbove, reversed, below_none, above_all, keep_greater}
 use Rattle.scim_shelf.proofs.StoreLemmas.{All-both, All-keep, apart_back, keyed_above, keyed_apart, keyed_tail}
@@ -61,7 +59,7 @@ among_head : (cs : List Content) (x : Content) (xs : List Content) → AreAmong 
 among_head cs x xs among P all = All-head P x xs (among P all)
 
 -- a visitor keeps a resource among those that it has
-abbrev KeepsAmong : {V : Type 0} → (List Content → V → Type 0) → V → Content → V → Type 0
+abbrev pub KeepsAmong : {V : Type 0} → (List Content → V → Type 0) → V → Content → V → Type 0
 KeepsAmong Has old c new = (cs : List Content) → Has cs old → HasPlace cs c → Has (keep c cs) new
 
 -- resources of a store that are shown are kept among those that were
@@ -136,7 +134,7 @@ in_order : (cs : List Content) → AreKeyed cs → kept cs [] ≡ cs
 in_order [] keyed = refl
 in_order (c ∷ cs) keyed = kept_above c cs [] (keyed_above c cs keyed) ∙ ap (λ (xs : List Content). c ∷ xs) (in_order cs (keyed_tail c cs keyed))
 
--- a visitor that was given all resources of a store has copied all of them
-pub cached_all : (cs : List Content) (first last : CacheContents) → AreKeyed cs → HasCached [] first → FoldsTo Caches first cs last → HasCached cs last
-cached_all cs first last keyed is folds =
-    subst (λ (xs : List Content). HasCached xs last) (in_order cs keyed) (shown_kept HasCached cs cs [] first last (all_fit cs keyed) (λ P all. all) (λ P all. All-nil P) is folds)
+-- a visitor that was given all resources of a store has kept all of them
+pub kept_all : {V : Type 0} (Has : List Content → V → Type 0) (cs : List Content) (first last : V) → AreKeyed cs → Has [] first → FoldsTo (KeepsAmong Has) first cs last → Has cs last
+kept_all Has cs first last keyed is folds =
+    subst (λ (xs : List Content). Has xs last) (in_order cs keyed) (shown_kept Has cs cs [] first last (all_fit cs keyed) (λ P all. all) (λ P all. All-nil P) is folds)

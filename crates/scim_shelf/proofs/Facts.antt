@@ -9,4 +9,5 @@ pub use Rattle.scim_shelf.proofs.ValueLemmas.{value_more, or_cond, or_false, lef
 pub use Rattle.scim_shelf.proofs.UnderLemmas.{exact_values}
 pub use Rattle.scim_shelf.proofs.PickLemmas.{filter_swap, picked_all}
 pub use Rattle.scim_shelf.proofs.CountLemmas.{device_raises, counts_grow}
-pub use Rattle.scim_shelf.proofs.CollectLemmas.{cached_all}
+pub use Rattle.scim_shelf.proofs.CollectLemmas.{KeepsAmong, kept_all}
+pub use Rattle.scim_shelf.proofs.CommitLemmas.{after_more, in_turn_more, in_turn_and, rows_after}

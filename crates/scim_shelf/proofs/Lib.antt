@@ -19,4 +19,5 @@ pub mod UnderLemmas
 pub mod CopyLemmas
 pub mod CollectLemmas
 pub mod CountLemmas
+pub mod CommitLemmas
 pub mod Facts

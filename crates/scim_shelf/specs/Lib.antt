@@ -1,10 +1,10 @@
 pub mod Stores
 pub mod Shelves
+pub mod Commits
 pub mod TextFilters
 pub mod Windows
 pub mod Collections
 pub mod code
-pub mod Caches
 pub mod IndexedTexts
 pub mod Members
 pub mod TextIndex

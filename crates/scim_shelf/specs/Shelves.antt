@@ -1,5 +1,5 @@
 -- The postconditions of the operations of a shelf.
-use Rattle.std.specs.Prelude.{◌≡◌, ◌≢◌, ◌+◌, ◌==◌, ◌++◌, if◌then◌else◌, ℕ, List, Result, Err, IfOk, OnOk, IfErr, OnErr, length}
+use Rattle.std.specs.Prelude.{◌≡◌, ◌≢◌, ◌<◌, ◌+◌, ◌==◌, ◌++◌, if◌then◌else◌, ℕ, List, Result, Err, IfOk, OnOk, IfErr, OnErr, length}
 use Rattle.std.specs.List.{FoldsTo}
 use Rattle.scim_text.specs.declared.memory.Failed.{Failed}
 use Rattle.scim_text.specs.declared.memory.Failed.TheVariants.{Because}
@@ -24,11 +24,22 @@ pub record Counts {T : Type 0} (before now : ℕ) (result : Result T (Failed She
 abbrev pub KeepsStore : {H : Type 0} → (H → Store → Type 0) → H → H → Type 0
 KeepsStore Stands old new = (store : Store) → Stands old store → Stands new store
 
--- A call that only reads keeps the store, never makes a dishonest shelf honest, counts failures, and never
--- fails with `Full`.
+-- The round that a shelf has: none, so that each commit is on the device; or one since this store, which the
+-- shelf represents again if the commits of the round can't be put on the device.
+pub data Round : Type 0 where
+  settled : Round
+  since : Store → Round
+
+-- The new shelf has each round that the old one has.
+abbrev pub KeepsRound : {H : Type 0} → (H → Round → Type 0) → H → H → Type 0
+KeepsRound HasRound old new = (round : Round) → HasRound old round → HasRound new round
+
+-- A call that only reads keeps the store and the round, never makes a dishonest shelf honest, counts failures,
+-- and never fails with `Full`.
 pub record OnlyReads {H T : Type 0} (Stands : H → Store → Type 0) (IsHonest : H → Type 0) (failures : H → ℕ)
-    (old new : H) (result : Result T (Failed ShelfFault)) : Type 0 where
+    (HasRound : H → Round → Type 0) (old new : H) (result : Result T (Failed ShelfFault)) : Type 0 where
   pub store : KeepsStore Stands old new
+  pub round : KeepsRound HasRound old new
   pub honest : IsHonest new → IsHonest old
   pub counts : Counts (failures old) (failures new) result
   pub not_full : result ≢ Err (Because Full)
@@ -64,11 +75,33 @@ abbrev pub ShowsPrefix : {H V T : Type 0} → (H → Store → Type 0) → (H �
 ShowsPrefix Stands IsHonest old new result Takes before shown after =
     result ≡ Err (Because Device) → (store : Store) → Stands old store → IsHonest new → TookPrefix Takes before (shown store) after
 
--- A commit that fails keeps the store. A commit never makes a dishonest shelf honest, counts failures, and
--- fails with `Full` only if the last audit number is in use.
+-- A commit that fails keeps the store. A commit keeps the round, never makes a dishonest shelf honest, counts
+-- failures, and fails with `Full` only if the last audit number is in use.
 pub record Commits {H T : Type 0} (Stands : H → Store → Type 0) (IsHonest : H → Type 0) (failures : H → ℕ)
-    (old new : H) (result : Result T (Failed ShelfFault)) : Type 0 where
+    (HasRound : H → Round → Type 0) (old new : H) (result : Result T (Failed ShelfFault)) : Type 0 where
   pub store : OnErr result (KeepsStore Stands old new)
+  pub round : KeepsRound HasRound old new
   pub honest : IsHonest new → IsHonest old
   pub counts : Counts (failures old) (failures new) result
   pub full : result ≡ Err (Because Full) → (store : Store) → Stands old store → length store.audit ≡ last_number
+
+-- The end of a round keeps the store if it succeeds; if it fails, the shelf represents the store before the round
+-- again. Afterwards no round is under way. It never makes a dishonest shelf honest, and counts failures.
+pub record Settles {H T : Type 0} (Stands : H → Store → Type 0) (IsHonest : H → Type 0) (failures : H → ℕ)
+    (HasRound : H → Round → Type 0) (old new : H) (result : Result T (Failed ShelfFault)) : Type 0 where
+  pub made : OnOk result (KeepsStore Stands old new)
+  pub back : OnErr result ((store : Store) → HasRound old (since store) → Stands new store)
+  pub settles : (round : Round) → HasRound old round → HasRound new settled
+  pub honest : IsHonest new → IsHonest old
+  pub counts : Counts (failures old) (failures new) result
+
+-- A call that commits `count` changes together keeps the store if it fails. It keeps the round, never makes a
+-- dishonest shelf honest, counts failures, and fails with `Full` only if the numbers left aren't enough for the
+-- audit rows.
+pub record CommitsSome {H T : Type 0} (Stands : H → Store → Type 0) (IsHonest : H → Type 0) (failures : H → ℕ)
+    (HasRound : H → Round → Type 0) (count : ℕ) (old new : H) (result : Result T (Failed ShelfFault)) : Type 0 where
+  pub store : OnErr result (KeepsStore Stands old new)
+  pub round : KeepsRound HasRound old new
+  pub honest : IsHonest new → IsHonest old
+  pub counts : Counts (failures old) (failures new) result
+  pub full : result ≡ Err (Because Full) → (store : Store) → Stands old store → last_number < length store.audit + count

@@ -42,7 +42,7 @@ use std::collections::{BTreeMap, BTreeSet};
 /// texts and then searches the tree of resources for each id, without reading the values of any resource. A page
 /// of the resources of a kind is found by their ids: it reads none before it. Making a change reads only the stored
 /// resource that has the id of the change.
-pub(crate) struct Collection {
+pub struct Collection {
     by_id: BTreeMap<Id, Resource>,
     owners: Owners,
     texts: TextIndex,
@@ -82,7 +82,7 @@ fn if_of(kind: Kind, found: Option<&Resource>) -> Option<&Resource>
 
 impl Collection {
     /// Returns an empty collection.
-    pub(crate) fn new(alloc: Global) -> Collection
+    pub fn new(alloc: Global) -> Collection
         ensures { IsCollection [] result }
     {
         Collection {
@@ -94,7 +94,7 @@ impl Collection {
     }
 
     /// Returns the collection of these resources, which may come in any order.
-    pub(crate) fn of(alloc: Global, resources: Vec<Resource>) -> Result<Collection, NoMemory>
+    pub fn of(alloc: Global, resources: Vec<Resource>) -> Result<Collection, NoMemory>
         requires { AllPairs AreApart resources.items }
         ensures { IfOk result (λ collection. (cs : List Content) × IsPermutation resources.items cs
             × IsCollection cs collection) }
@@ -250,7 +250,7 @@ impl Collection {
 
     /// Stores a resource. A stored resource with the same id is replaced. After an error every look-up
     /// returns what it returned before the call.
-    pub(crate) fn keep(&mut self, alloc: Global, resource: Resource) -> Result<(), NoMemory>
+    pub fn keep(&mut self, alloc: Global, resource: Resource) -> Result<(), NoMemory>
         ensures ok { OnOk result ((cs : List Content) → IsCollection cs self.old
             → HasPlace cs resource
             → IsCollection (keep resource cs) self.new) }

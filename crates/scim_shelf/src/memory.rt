@@ -1,14 +1,18 @@
 //! A shelf in memory.
-ghost use Rattle.std.specs.Prelude.{◌≡◌, IfOk, AllPairs, ⊤};
+ghost use Rattle.std.specs.Prelude.{◌≡◌, IfOk, OnOk, AllPairs, ⊤};
 ghost use Rattle.scim_value.specs.Uniqueness.{AreApart};
 ghost use Rattle.scim_shelf.specs.Stores.{Store, IsNewStore};
+ghost use Rattle.scim_shelf.specs.Commits.{CanKeepAll, after_all};
+ghost use Rattle.scim_shelf.specs.Shelves.{KeepsStore};
 ghost use Rattle.scim_shelf.specs.Collections.{IsCollection};
 
 use crate::changes::Change;
 use crate::collections::Collection;
+use crate::commits::Commit;
+use crate::copies::collection_of;
 use crate::faults::ShelfFault;
 use crate::leaf_texts::LeafText;
-use crate::shelf::{Shelf, Visitor};
+use crate::shelf::{BatchShelf, Shelf, Visitor};
 use scim_audit::AuditRow;
 use scim_cell::Id;
 use scim_schema::Kind;
@@ -49,6 +53,20 @@ impl MemoryShelf {
             collection,
             audit: Vec::new(alloc),
         })
+    }
+
+    /// Returns a copy.
+    fn try_copy(&mut self, alloc: Global) -> Result<MemoryShelf, NoMemory>
+        ensures copy { IfOk result (λ copy. (store : Store)
+            → ⟦<MemoryShelf as Shelf>⟧.stands self.old store
+            → ⟦<MemoryShelf as Shelf>⟧.stands copy store) }
+        ensures kept { KeepsStore ⟦<MemoryShelf as Shelf>⟧.stands self.old self.new }
+    {
+        let audit = copies_of_rows(alloc, self.audit.as_slice())?;
+        match collection_of(alloc, self) {
+            Ok(collection) => Ok(MemoryShelf { collection, audit }),
+            Err(_) => Err(NoMemory),
+        }
     }
 
     /// Returns the audit rows in order: the first has number 1.
@@ -154,7 +172,62 @@ impl Shelf for MemoryShelf {
         }
     }
 
+    fn settle(&mut self, _alloc: Global) -> Result<(), Failed<ShelfFault>> {
+        Ok(())
+    }
+
     fn failures(&self) -> u64 {
         0
+    }
+}
+
+/// Returns copies of the rows, in order.
+fn copies_of_rows(alloc: Global, rows: &[AuditRow]) -> Result<Vec<AuditRow>, NoMemory>
+    ensures { IfOk result (λ copies. copies.items ≡ rows.now) }
+{
+    let mut copies = Vec::with_capacity(alloc, rows.len())?;
+    for row in rows {
+        let copy = row.try_copy(alloc)?;
+        push(&mut copies, copy)?;
+    }
+    Ok(copies)
+}
+
+/// Makes these changes and appends their rows, in order. The caller has seen that there are numbers for them.
+///
+/// On an error some of them may have been made.
+fn commit_each(
+    alloc: Global,
+    shelf: &mut MemoryShelf,
+    commits: &[Commit<'_>],
+) -> Result<(), NoMemory>
+    ensures { OnOk result ((store : Store) → ⟦<MemoryShelf as Shelf>⟧.stands shelf.old store
+        → CanKeepAll commits.now store
+        → ⟦<MemoryShelf as Shelf>⟧.stands shelf.new (after_all commits.now store)) }
+{
+    for commit in commits {
+        let change = commit.change.try_copy(alloc)?;
+        let row = commit.row.try_copy(alloc)?;
+        let Ok(()) = shelf.commit(alloc, change, row) else {
+            return Err(NoMemory);
+        };
+    }
+    Ok(())
+}
+
+impl BatchShelf for MemoryShelf {
+    fn commit_all(
+        &mut self,
+        alloc: Global,
+        commits: &[Commit<'_>],
+    ) -> Result<(), Failed<ShelfFault>> {
+        let left = LAST_NUMBER.saturating_sub(self.audit.len() as u64);
+        if commits.len() as u64 > left {
+            return Err(Failed::Because(ShelfFault::Full));
+        }
+        let mut next = self.try_copy(alloc)?;
+        commit_each(alloc, &mut next, commits)?;
+        *self = next;
+        Ok(())
     }
 }

@@ -4,7 +4,7 @@ ghost use Rattle.std.specs.Borrow.{Lends, sem};
 ghost use Rattle.scim_shelf.specs.Stores.{Store};
 ghost use Rattle.scim_shelf.specs.Shelves.{Counts};
 ghost use Rattle.scim_shelf_watch.specs.contracts.watched.WatchedShelf.{the_row};
-ghost use Rattle.scim_shelf_watch.specs.Watched.{Represents, numbered, lower_of, watcher_of, rows_of, before_of, with_lower, with_watcher};
+ghost use Rattle.scim_shelf_watch.specs.Watched.{Represents, IsInRound, begun_rows, committed_rows, lower_of, watcher_of, rows_of, before_of, told_rows_of, with_lower, with_watcher};
 
 use crate::watcher::Watcher;
 use scim_audit::AuditRow;
@@ -18,17 +18,22 @@ use std::alloc::Global;
 /// A shelf that tells a watcher what is committed to another shelf, the shelf below.
 ///
 /// It represents the same store as the shelf below. Reads go to the shelf below. A commit asks the watcher,
-/// tells it that the commit begins, commits to the shelf below, and tells the watcher the result. The watcher
-/// is told of each row that was committed since the watching began: once, in order, and with its number, as
-/// long as there are fewer than 2^64 rows.
+/// tells it that the commit begins, commits to the shelf below, and tells the watcher the result. In a round of the
+/// shelf below the watcher is told the result when the round is settled. The watcher is told of each row that was
+/// committed since the watching began: once, in order, and with its number, as long as there are fewer than 2^64
+/// rows.
 #[derive(Drop)]
 pub struct WatchedShelf<S, W> {
     lower: S,
     watcher: W,
     /// The count of audit rows when the watching began.
     before: u64,
-    /// The count of audit rows.
+    /// The count of audit rows, with those of the round that is under way.
     rows: u64,
+    /// The count of audit rows that the watcher was told to be committed.
+    told_rows: u64,
+    /// Whether a round of the shelf below is under way.
+    in_round: bool,
     /// How often the shelf below failed with `Device`, or the watcher refused a commit; 2^64 - 1 at most.
     failures: u64,
 }
@@ -43,7 +48,7 @@ impl<S: Shelf, W: Watcher> WatchedShelf<S, W> {
         ensures before { before_of result ≡ rows }
         ensures failures { ⟦<WatchedShelf<S, W> as Shelf>⟧.failures result ≡ 0 }
         ensures stands { (store : Store) → S.stands lower store
-            → (length store.audit < 2 ^ 64 → rows ≡ length store.audit) → W.told watcher []
+            → (length store.audit < 2 ^ 64 → rows ≡ length store.audit) → W.told watcher [] []
             → ⟦<WatchedShelf<S, W> as Shelf>⟧.stands result store }
     {
         WatchedShelf {
@@ -51,6 +56,8 @@ impl<S: Shelf, W: Watcher> WatchedShelf<S, W> {
             watcher,
             before: rows,
             rows,
+            told_rows: rows,
+            in_round: false,
             failures: 0,
         }
     }
@@ -66,13 +73,13 @@ impl<S: Shelf, W: Watcher> WatchedShelf<S, W> {
     }
 
     /// Returns the watcher. As long as there are fewer than 2^64 rows, it has been told of exactly the rows
-    /// that were committed since the watching began.
+    /// that were committed since the watching began, and of those of the round that is under way.
     pub fn watcher(&self) -> &W
         ensures value { result.now ≡ watcher_of self.now }
         ensures told { (store : Store) → ⟦<WatchedShelf<S, W> as Shelf>⟧.stands self.now store
             → length store.audit < 2 ^ 64
-            → W.told result.now (numbered (before_of self.now + 1)
-            (drop (before_of self.now) store.audit)) }
+            → W.told result.now (committed_rows (before_of self.now) (told_rows_of self.now)
+            store.audit) (begun_rows (told_rows_of self.now) store.audit) }
     {
         &self.watcher
     }
@@ -87,7 +94,7 @@ impl<S: Shelf, W: Watcher> WatchedShelf<S, W> {
         &mut self.watcher
     }
 
-    /// Returns the count of audit rows.
+    /// Returns the count of audit rows, with those of the round that is under way.
     pub fn rows(&self) -> u64
         ensures value { result ≡ rows_of self.now }
         ensures count { (store : Store) → ⟦<WatchedShelf<S, W> as Shelf>⟧.stands self.now store
@@ -127,6 +134,8 @@ impl<S: Shelf, W: Watcher> Shelf for WatchedShelf<S, W> {
     ghost is_honest = { λ shelf. S.is_honest shelf.lower };
 
     ghost failures = { λ shelf. shelf.failures };
+
+    ghost has_round = { λ shelf round. IsInRound S.has_round W.told shelf round };
 
     fn by_id(
         &mut self,
@@ -221,11 +230,41 @@ impl<S: Shelf, W: Watcher> Shelf for WatchedShelf<S, W> {
         match counted(&mut self.failures, self.lower.commit(alloc, change, row)) {
             Ok(()) => {
                 self.rows = number;
-                self.watcher.committed();
+                if !self.in_round {
+                    self.told_rows = number;
+                    self.watcher.committed();
+                }
                 Ok(())
             }
             Err(fault) => {
                 self.watcher.failed(&fault);
+                Err(fault)
+            }
+        }
+    }
+
+    fn begin_round(&mut self, alloc: Global) -> bool {
+        if self.in_round || !self.lower.begin_round(alloc) {
+            return false;
+        }
+        self.in_round = true;
+        true
+    }
+
+    fn settle(&mut self, alloc: Global) -> Result<(), Failed<ShelfFault>> {
+        if !self.in_round {
+            return Ok(());
+        }
+        self.in_round = false;
+        match counted(&mut self.failures, self.lower.settle(alloc)) {
+            Ok(()) => {
+                self.told_rows = self.rows;
+                self.watcher.committed();
+                Ok(())
+            }
+            Err(fault) => {
+                self.rows = self.told_rows;
+                self.watcher.lost(&fault);
                 Err(fault)
             }
         }

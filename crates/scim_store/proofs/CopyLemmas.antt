@@ -22,9 +22,9 @@ use Rattle.scim_cell.specs.Order.{id_cmp}
 use Rattle.scim_cell.proofs.Facts.{slice_cmp-id_text}
 use Rattle.scim_json.specs.Kept.{IsKept}
 use Rattle.scim_json.proofs.Facts.{kept_parts_determine}
-use Rattle.scim_shelf.specs.declared.copies.CacheContents.{CacheContents}
-use Rattle.scim_shelf.specs.Caches.{Caches, HasCached}
-use Rattle.scim_shelf.proofs.Facts.{cached_all}
+use Rattle.scim_shelf_cache.specs.declared.contents.CacheContents.{CacheContents}
+use Rattle.scim_shelf_cache.specs.Caches.{Caches, HasCached}
+use Rattle.scim_shelf_cache.proofs.Facts.{cached_all}
 use Rattle.scim_store_tables.specs.declared.versions.Version.{Version}
 use Rattle.scim_store_tables.specs.declared.versions.Version.TheVariants.{Two}
 use Rattle.scim_store_tables.specs.Lists.{has_text, secret_values}

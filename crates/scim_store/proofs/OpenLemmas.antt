@@ -13,8 +13,8 @@ use Rattle.sqlite.specs.State.{State, HasCleanDisk, Survives}
 use Rattle.sqlite.specs.View.{doubt}
 use Rattle.sqlite.proofs.StateLemmas.{survives_then, survives_weaker}
 use Rattle.scim_store_tables.specs.Steps.{Became, Undoes, Leaves}
-use Rattle.scim_shelf.specs.declared.copies.CacheContents.{CacheContents}
-use Rattle.scim_shelf.specs.Caches.{HasCached}
+use Rattle.scim_shelf_cache.specs.declared.contents.CacheContents.{CacheContents}
+use Rattle.scim_shelf_cache.specs.Caches.{HasCached}
 use Rattle.scim_shelf.specs.Stores.{Store, AreKeyed}
 use Rattle.scim_value.specs.Uniqueness.{Name, unique_names}
 use Rattle.scim_store_tables.specs.Tables.{no_schema}

@@ -9,30 +9,20 @@ use Rattle.sqlite.proofs.StateLemmas.{survives_weaker}
 use Rattle.scim_shelf.specs.Stores.{Store}
 use Rattle.scim_store_tables.specs.Steps.{Became, Undoes, Leaves}
 use Rattle.scim_store_rows.specs.Stands.{StandsFor}
-use Rattle.scim_store.specs.declared.commits.Commit.{Commit}
+use Rattle.scim_shelf.specs.declared.commits.Commit.{Commit}
 use Rattle.scim_store.specs.Committing.{HasStore, AreOf, IsDueOver, Changes}
-use Rattle.scim_store.specs.Commits.{committed, after_all, InTurn, AreDue}
+use Rattle.scim_shelf.specs.Commits.{committed, after_all}
+use Rattle.scim_shelf.proofs.Facts.{after_more, in_turn_more, rows_after}
+use Rattle.scim_store.specs.Commits.{AreDue}
 
 -- ---- one commit behind others
-
-after_more : (cs : List Commit) (c : Commit) (store : Store) → after_all (cs ++ c ∷ []) store ≡ committed c (after_all cs store)
-after_more [] c store = refl
-after_more (d ∷ ds) c store = after_more ds c (committed d store)
-
-in_turn_more : (P : Store → Commit → Type 0) (cs : List Commit) (c : Commit) (store : Store) → InTurn P (cs ++ c ∷ []) store → InTurn P cs store × P (after_all cs store) c
-in_turn_more P [] c store h = (tt, h.0)
-in_turn_more P (d ∷ ds) c store h = (let rest = in_turn_more P ds c (committed d store) h.1 in ((h.0, rest.0), rest.1))
-
-pub rows_after : (cs : List Commit) (store : Store) → length (after_all cs store).audit ≡ length store.audit + length cs
-rows_after [] store = omega arith
-rows_after (d ∷ ds) store = omega (arith, rows_after ds (committed d store), length-append store.audit (d.row.now ∷ []))
 
 -- before the last of these commits, those before it are due, and it is due behind them
 due_more : (cs : List Commit) (c : Commit) (rows number : ℕ) (store : Store) → number ≡ rows + length cs + 1 → AreDue (cs ++ c ∷ []) rows store
     → AreDue cs rows store × IsDueOver (option_copied c.old) c.change.now number (after_all cs store)
 due_more cs c rows number store is due =
-    let can = in_turn_more _ cs c store due.can in
-    let were = in_turn_more _ cs c store due.were in (
+    let can = in_turn_more committed _ cs c store due.can in
+    let were = in_turn_more committed _ cs c store due.were in (
       record { can = can.0; were = were.0; rows_are = due.rows_are },
       record { due = record { can = can.1; next = omega (arith, is, due.rows_are, rows_after cs store) }; was = were.1 },
     )
@@ -44,7 +34,7 @@ pub more_changed : (base : List ℕ) (cs : List Commit) (c : Commit) (rows numbe
     → Changes base (committed c) (IsDueOver (option_copied c.old) c.change.now number) b d → Changes base (after_all (cs ++ c ∷ [])) (AreDue (cs ++ c ∷ []) rows) a d
 more_changed base cs c rows number a b d is did step store stands due =
     let both = due_more cs c rows number store is due in
-    subst (StandsFor base d) (sym (after_more cs c store)) (step (after_all cs store) (did store stands both.0) both.1)
+    subst (StandsFor base d) (sym (after_more committed cs c store)) (step (after_all cs store) (did store stands both.0) both.1)
 
 -- ---- the whole transaction
 

@@ -15,9 +15,10 @@ use Rattle.scim_shelf.specs.Stores.{Store, CanKeep}
 use Rattle.scim_store_tables.specs.Steps.{Leaves}
 use Rattle.scim_store.specs.Committing.{HasStore, IsDue, AreOf, Changes}
 use Rattle.scim_store.specs.Shelves.{IsKeptIn, CommitsWhole}
-use Rattle.scim_store.specs.declared.commits.Commit.{Commit}
-use Rattle.scim_store.specs.Commits.{CanKeepAll, AreOld, AreDue, after_all}
-use Rattle.scim_store.proofs.SeveralLemmas.{rows_after}
+use Rattle.scim_shelf.specs.declared.commits.Commit.{Commit}
+use Rattle.scim_shelf.specs.Commits.{CanKeepAll, AreOld, after_all}
+use Rattle.scim_store.specs.Commits.{AreDue}
+use Rattle.scim_shelf.proofs.Facts.{rows_after}
 
 -- a disk that gives back what was written did so before
 pub clean_before : (old new : State) → doubt old.is_clean ≤ doubt new.is_clean → HasCleanDisk new → HasCleanDisk old

@@ -2,8 +2,8 @@
 use Rattle.std.specs.Prelude.{◌≡◌, ◌⊎◌, ℕ, List, map, length, All, Option, Some, None, IsTrue, ⊤}
 use Rattle.sqlite.specs.Effect.{Database}
 use Rattle.sqlite.specs.State.{State}
-use Rattle.scim_shelf.specs.declared.copies.CacheContents.{CacheContents}
-use Rattle.scim_shelf.specs.Caches.{HasCached}
+use Rattle.scim_shelf_cache.specs.declared.contents.CacheContents.{CacheContents}
+use Rattle.scim_shelf_cache.specs.Caches.{HasCached}
 use Rattle.scim_shelf.specs.Stores.{Store, AreKeyed}
 use Rattle.scim_cell.specs.Ids.{IsId}
 use Rattle.scim_store_tables.specs.Tables.{no_schema, schema_of}

@@ -3,7 +3,6 @@
 #![tactic(auto)]
 
 mod changes;
-mod commits;
 mod committing;
 mod creation;
 mod damage;
@@ -15,7 +14,6 @@ mod row_owners;
 mod sql_shelf;
 mod transactions;
 
-pub use commits::Commit;
 pub use damage::{holding_rows_are_sound, sound_rows_hold};
 pub use importing::{ImportFault, import};
 pub use sql_shelf::{OpenFault, SqlShelf};

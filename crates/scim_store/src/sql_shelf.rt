@@ -12,7 +12,7 @@ ghost use Rattle.scim_text.specs.declared.memory.Failed.{Failed};
 ghost use Rattle.scim_shelf.specs.declared.faults.ShelfFault.{ShelfFault};
 ghost use Rattle.scim_cell.specs.Kinds.{of_kind};
 ghost use Rattle.scim_value.specs.Uniqueness.{name_of};
-ghost use Rattle.scim_shelf.specs.Caches.{HasCached};
+ghost use Rattle.scim_shelf_cache.specs.Caches.{HasCached};
 ghost use Rattle.scim_shelf.specs.Shelves.{Counts, Answers, OnlyReads, ShowsPrefix, Commits, count_after};
 ghost use Rattle.scim_shelf.specs.Stores.{Store, AreKeyed, CanKeep, IsOld, is_at, has_name, is_group_with, last_number, after};
 ghost use Rattle.scim_store_rows.specs.Auditing.{AreRowsFrom};
@@ -23,17 +23,19 @@ ghost use Rattle.scim_store_tables.specs.Steps.{Became, Leaves};
 ghost use Rattle.scim_store_tables.specs.Migrating.{Migrates};
 ghost use Rattle.scim_store.specs.Beginning.{no_store, Begins};
 ghost use Rattle.scim_store_rows.specs.Finding.{StandsIn};
-ghost use Rattle.scim_store.specs.Commits.{CanKeepAll, AreOld, MayMakeAll, CommitsSome, after_all};
+ghost use Rattle.scim_shelf.specs.Commits.{CanKeepAll, AreOld, after_all};
+ghost use Rattle.scim_shelf.specs.Shelves.{CommitsSome};
+ghost use Rattle.scim_store.specs.Commits.{MayMakeAll};
 ghost use Rattle.scim_store.specs.Shelves.{IsKeptIn, MayMake, MayMakeOver, CommitsWhole, HasOpened, Refuses, LeavesBegun};
 
-use crate::commits::Commit;
 use crate::committing::{CommitFault, commit_all, commit_change, commit_over};
 use crate::creation::begin_store;
 use crate::examining::{Examined, examine};
 use scim_audit::AuditRow;
 use scim_cell::{Id, Text};
 use scim_schema::Kind;
-use scim_shelf::{CacheContents, Change, Shelf, ShelfFault, Visitor, show_all};
+use scim_shelf::{BatchShelf, Change, Commit, Shelf, ShelfFault, Visitor, show_all};
+use scim_shelf_cache::CacheContents;
 use scim_store_rows::{
     LAST_NUMBER, find_by_id, find_groups_with, find_owner_of_name, read_audit_rows, walk,
 };
@@ -298,45 +300,13 @@ impl<S: Alter> SqlShelf<S> {
             (λ _ _. IsUnchanged (state S.Store (connection_of self.old))
             (state S.Store (connection_of self.new)))) }
         ensures read { OnlyReads ⟦<SqlShelf<S> as Shelf>⟧.stands
-            ⟦<SqlShelf<S> as Shelf>⟧.is_honest ⟦<SqlShelf<S> as Shelf>⟧.failures
+            ⟦<SqlShelf<S> as Shelf>⟧.is_honest ⟦<SqlShelf<S> as Shelf>⟧.failures ⟦<SqlShelf<S> as Shelf>⟧.has_round
             self.old self.new result }
         ensures spares { Spares (state S.Store (connection_of self.old))
             (state S.Store (connection_of self.new)) }
     {
         let read = read_audit_rows(&mut self.connection, alloc, from, count);
         told(&mut self.failures, read)
-    }
-
-    /// Makes these changes and adds their audit rows, in order, in one transaction. The `old` of each commit is
-    /// the user or group that has the id of its change just before it is made, if any; it is ignored for
-    /// `Change::Nothing`. For each `Change::Keep` the caller guarantees what [`Shelf::commit`] asks, just before
-    /// it is made.
-    ///
-    /// Fails with `Device` if the device failed, and with `Full` if fewer audit numbers than rows are left. On
-    /// any error nothing is changed and no row is added.
-    pub fn commit_all(
-        &mut self,
-        alloc: Global,
-        commits: &[Commit<'_>],
-    ) -> Result<(), Failed<ShelfFault>>
-        ensures ok { OnOk result ((store : Store) → ⟦<SqlShelf<S> as Shelf>⟧.stands self.old store
-            → CanKeepAll commits.now store
-            → (⟦<SqlShelf<S> as Shelf>⟧.is_honest self.new → AreOld commits.now store)
-            → ⟦<SqlShelf<S> as Shelf>⟧.stands self.new (after_all commits.now store)) }
-        ensures commits { CommitsSome ⟦<SqlShelf<S> as Shelf>⟧.stands
-            ⟦<SqlShelf<S> as Shelf>⟧.is_honest ⟦<SqlShelf<S> as Shelf>⟧.failures
-            (length commits.now) self.old self.new result }
-        ensures disk { CommitsWhole (base_of self.old) (after_all commits.now)
-            (MayMakeAll ⟦<SqlShelf<S> as Shelf>⟧.stands self.old commits.now)
-            (state S.Store (connection_of self.old)) (state S.Store (connection_of self.new)) result }
-    {
-        let count = commits.len() as u64;
-        if count > LAST_NUMBER - self.rows {
-            return Err(Failed::Because(ShelfFault::Full));
-        }
-        let (connection, base) = (&mut self.connection, self.base.as_str());
-        let done = commit_all(connection, alloc, base, commits, self.rows);
-        told_commit(&mut self.failures, &mut self.rows, count, done)
     }
 
     /// Returns the connection of the shelf, unchanged.
@@ -430,7 +400,7 @@ impl<S: Alter> Shelf for SqlShelf<S> {
             ⟦<SqlShelf<S> as Shelf>⟧.is_honest self.old self.new
             (λ store found. found ≡ find (is_at kind id) store.resources)) }
         ensures read { OnlyReads ⟦<SqlShelf<S> as Shelf>⟧.stands
-            ⟦<SqlShelf<S> as Shelf>⟧.is_honest ⟦<SqlShelf<S> as Shelf>⟧.failures
+            ⟦<SqlShelf<S> as Shelf>⟧.is_honest ⟦<SqlShelf<S> as Shelf>⟧.failures ⟦<SqlShelf<S> as Shelf>⟧.has_round
             self.old self.new result }
         ensures spares { Spares (state S.Store (connection_of self.old))
             (state S.Store (connection_of self.new)) }
@@ -448,7 +418,7 @@ impl<S: Alter> Shelf for SqlShelf<S> {
             ⟦<SqlShelf<S> as Shelf>⟧.is_honest self.old self.new
             (λ store found. found ≡ find (has_name (name_of name.now)) store.resources)) }
         ensures read { OnlyReads ⟦<SqlShelf<S> as Shelf>⟧.stands
-            ⟦<SqlShelf<S> as Shelf>⟧.is_honest ⟦<SqlShelf<S> as Shelf>⟧.failures
+            ⟦<SqlShelf<S> as Shelf>⟧.is_honest ⟦<SqlShelf<S> as Shelf>⟧.failures ⟦<SqlShelf<S> as Shelf>⟧.has_round
             self.old self.new result }
         ensures spares { Spares (state S.Store (connection_of self.old))
             (state S.Store (connection_of self.new)) }
@@ -473,7 +443,7 @@ impl<S: Alter> Shelf for SqlShelf<S> {
             V.takes visitor.old
             (λ store. filter (is_group_with value.now) store.resources) visitor.new }
         ensures read { OnlyReads ⟦<SqlShelf<S> as Shelf>⟧.stands
-            ⟦<SqlShelf<S> as Shelf>⟧.is_honest ⟦<SqlShelf<S> as Shelf>⟧.failures
+            ⟦<SqlShelf<S> as Shelf>⟧.is_honest ⟦<SqlShelf<S> as Shelf>⟧.failures ⟦<SqlShelf<S> as Shelf>⟧.has_round
             self.old self.new result }
         ensures spares { Spares (state S.Store (connection_of self.old))
             (state S.Store (connection_of self.new)) }
@@ -497,7 +467,7 @@ impl<S: Alter> Shelf for SqlShelf<S> {
             ⟦<SqlShelf<S> as Shelf>⟧.is_honest self.old self.new result
             V.takes visitor.old (λ store. of_kind kind store.resources) visitor.new }
         ensures read { OnlyReads ⟦<SqlShelf<S> as Shelf>⟧.stands
-            ⟦<SqlShelf<S> as Shelf>⟧.is_honest ⟦<SqlShelf<S> as Shelf>⟧.failures
+            ⟦<SqlShelf<S> as Shelf>⟧.is_honest ⟦<SqlShelf<S> as Shelf>⟧.failures ⟦<SqlShelf<S> as Shelf>⟧.has_round
             self.old self.new result }
         ensures spares { Spares (state S.Store (connection_of self.old))
             (state S.Store (connection_of self.new)) }
@@ -522,7 +492,7 @@ impl<S: Alter> Shelf for SqlShelf<S> {
             → AreKeyed store.resources → CanKeep store change
             → ⟦<SqlShelf<S> as Shelf>⟧.stands self.new (after change row store)) }
         ensures commits { Commits ⟦<SqlShelf<S> as Shelf>⟧.stands
-            ⟦<SqlShelf<S> as Shelf>⟧.is_honest ⟦<SqlShelf<S> as Shelf>⟧.failures
+            ⟦<SqlShelf<S> as Shelf>⟧.is_honest ⟦<SqlShelf<S> as Shelf>⟧.failures ⟦<SqlShelf<S> as Shelf>⟧.has_round
             self.old self.new result }
         ensures disk { CommitsWhole (base_of self.old) (after change row)
             (MayMake ⟦<SqlShelf<S> as Shelf>⟧.stands self.old change)
@@ -549,7 +519,7 @@ impl<S: Alter> Shelf for SqlShelf<S> {
             → IsOld store.resources change.now (option_copied old.entry))
             → ⟦<SqlShelf<S> as Shelf>⟧.stands self.new (after change.now row.now store)) }
         ensures commits { Commits ⟦<SqlShelf<S> as Shelf>⟧.stands
-            ⟦<SqlShelf<S> as Shelf>⟧.is_honest ⟦<SqlShelf<S> as Shelf>⟧.failures
+            ⟦<SqlShelf<S> as Shelf>⟧.is_honest ⟦<SqlShelf<S> as Shelf>⟧.failures ⟦<SqlShelf<S> as Shelf>⟧.has_round
             self.old self.new result }
         ensures disk { CommitsWhole (base_of self.old) (after change.now row.now)
             (MayMakeOver ⟦<SqlShelf<S> as Shelf>⟧.stands self.old (option_copied old.entry)
@@ -564,7 +534,40 @@ impl<S: Alter> Shelf for SqlShelf<S> {
         told_commit(&mut self.failures, &mut self.rows, 1, done)
     }
 
+    fn settle(&mut self, _alloc: Global) -> Result<(), Failed<ShelfFault>> {
+        Ok(())
+    }
+
     fn failures(&self) -> u64 {
         self.failures
+    }
+}
+
+impl<S: Alter> BatchShelf for SqlShelf<S> {
+    ghost use Rattle.scim_store.specs.SqlShelves.{connection_of, base_of};
+
+    fn commit_all(
+        &mut self,
+        alloc: Global,
+        commits: &[Commit<'_>],
+    ) -> Result<(), Failed<ShelfFault>>
+        ensures ok { OnOk result ((store : Store) → ⟦<SqlShelf<S> as Shelf>⟧.stands self.old store
+            → CanKeepAll commits.now store
+            → (⟦<SqlShelf<S> as Shelf>⟧.is_honest self.new → AreOld commits.now store)
+            → ⟦<SqlShelf<S> as Shelf>⟧.stands self.new (after_all commits.now store)) }
+        ensures commits { CommitsSome ⟦<SqlShelf<S> as Shelf>⟧.stands
+            ⟦<SqlShelf<S> as Shelf>⟧.is_honest ⟦<SqlShelf<S> as Shelf>⟧.failures ⟦<SqlShelf<S> as Shelf>⟧.has_round
+            (length commits.now) self.old self.new result }
+        ensures disk { CommitsWhole (base_of self.old) (after_all commits.now)
+            (MayMakeAll ⟦<SqlShelf<S> as Shelf>⟧.stands self.old commits.now)
+            (state S.Store (connection_of self.old)) (state S.Store (connection_of self.new)) result }
+    {
+        let count = commits.len() as u64;
+        if count > LAST_NUMBER - self.rows {
+            return Err(Failed::Because(ShelfFault::Full));
+        }
+        let (connection, base) = (&mut self.connection, self.base.as_str());
+        let done = commit_all(connection, alloc, base, commits, self.rows);
+        told_commit(&mut self.failures, &mut self.rows, count, done)
     }
 }

@@ -14,7 +14,8 @@ use scim_hub::Hub;
 use scim_route::Routes;
 use scim_serve::serve;
 use scim_service::Service;
-use scim_shelf::CachedShelf;
+use scim_shelf::BatchShelf;
+use scim_shelf_cache::CachedShelf;
 use scim_shelf_watch::WatchedShelf;
 use scim_sockets::{Limits, Sockets};
 use scim_text::Failed;
@@ -124,7 +125,7 @@ fn audit_log_of(
 
 /// Listens on the ports, and serves all connections. Fails with `CannotListen` if the server can't listen on
 /// a port, with `NoMemory` if memory runs out, and with the errors of [`serve_over`].
-fn serve_at_ports<T: OpenShelf>(
+fn serve_at_ports<T: OpenShelf + BatchShelf>(
     rt: &HostRuntime,
     options: &ServeOptions<'_>,
     hub: &mut Hub<ServedShelf<'_, T>>,
@@ -160,7 +161,7 @@ fn limits_of(options: LimitOptions) -> Limits {
 
 /// Prints the addresses that the server listens on, and serves all connections. Fails with `Output` if they
 /// can't be printed, with `CannotServe` if serving fails, and with the errors of [`end_of`].
-fn serve_over<T: OpenShelf>(
+fn serve_over<T: OpenShelf + BatchShelf>(
     rt: &HostRuntime,
     sockets: &mut Sockets<'_, HostRuntime>,
     hub: &mut Hub<ServedShelf<'_, T>>,

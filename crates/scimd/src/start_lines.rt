@@ -3,7 +3,8 @@
 use crate::system_hosts::SystemHost;
 use scim_admin::ServerWatch;
 use scim_command::{OneLine, ServeFiles, ServeOptions, VERSION};
-use scim_shelf::{CachedShelf, Shelf};
+use scim_shelf::BatchShelf;
+use scim_shelf_cache::CachedShelf;
 use scim_shelf_watch::WatchedShelf;
 use std::fmt;
 use std::time::Instant;
@@ -57,7 +58,7 @@ pub(crate) fn log_files(rt: &HostRuntime, options: &ServeOptions<'_>, counts: Fi
 }
 
 /// Logs what is in the database, and how long the start took.
-pub(crate) fn log_start<T: Shelf>(
+pub(crate) fn log_start<T: BatchShelf>(
     rt: &HostRuntime,
     shelf: &mut WatchedShelf<CachedShelf<T>, ServerWatch<SystemHost<'_>>>,
     start: Instant,

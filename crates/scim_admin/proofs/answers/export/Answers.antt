@@ -1,5 +1,5 @@
 use Rattle.std.proofs.Common.{ℕ, sym, ap, ◌∙◌, subst, Err}
-use Rattle.scim_shelf.specs.Caches.{HasKeyed}
+use Rattle.scim_shelf_cache.specs.Caches.{HasKeyed}
 use Rattle.scim_shelf.specs.Stores.{Store}
 use Rattle.scim_shelf_watch.specs.declared.watched.WatchedShelf.{WatchedShelf}
 use Rattle.scim_shelf_watch.specs.Watched.{Represents, lower_of}

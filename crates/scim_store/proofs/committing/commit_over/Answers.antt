@@ -1,6 +1,6 @@
 use Rattle.std.proofs.lemmas.Result.{on_ok_weaker}
 use Rattle.sqlite.specs.Held.{state}
-use Rattle.scim_store.specs.declared.commits.Commit.{Commit}
+use Rattle.scim_shelf.specs.declared.commits.Commit.{Commit}
 use Rattle.scim_store.proofs.SeveralLemmas.{one_due, one_survives}
 use Rattle.scim_store.proofs.committing.commit_over.Goals as goal
 

@@ -2,7 +2,8 @@ use Rattle.std.proofs.Common.{◌≡◌, refl, subst, rules}
 use Rattle.sqlite.specs.State.{HasCleanDisk, Survives}
 use Rattle.sqlite.specs.Held.{state}
 use Rattle.scim_store_tables.specs.Steps.{Leaves}
-use Rattle.scim_store.specs.Commits.{AreDue, after_all}
+use Rattle.scim_shelf.specs.Commits.{after_all}
+use Rattle.scim_store.specs.Commits.{AreDue}
 use Rattle.scim_store.specs.Committing.{Changes}
 use Rattle.scim_store.proofs.CommitLemmas.{transaction_survives}
 use Rattle.scim_store.proofs.committing.write_all.Goals as goal

@@ -2,8 +2,9 @@ use Rattle.std.proofs.Common.{◌≡◌, ◌∙◌, ◌+◌, [], ◌∷◌, ◌+
 use Rattle.std.proofs.lemmas.List.{take_all, take_more}
 use Rattle.sqlite.specs.Held.{state}
 use Rattle.scim_store_tables.proofs.Facts.{HasDone, does_nothing, does_less, fails_then, does_both}
-use Rattle.scim_store.specs.declared.commits.Commit.{Commit}
-use Rattle.scim_store.specs.Commits.{AreDue, after_all}
+use Rattle.scim_shelf.specs.declared.commits.Commit.{Commit}
+use Rattle.scim_shelf.specs.Commits.{after_all}
+use Rattle.scim_store.specs.Commits.{AreDue}
 use Rattle.scim_store.specs.Committing.{Changes}
 use Rattle.scim_store.proofs.SeveralLemmas.{none_changed, more_changed}
 use Rattle.scim_store.proofs.committing.write_commits.Goals as goal

@@ -1,6 +1,7 @@
 use Rattle.std.proofs.Common.{◌≡◌, ◌+◌, take}
 use Rattle.scim_store_tables.proofs.Facts.{HasDone}
-use Rattle.scim_store.specs.Commits.{AreDue, after_all}
+use Rattle.scim_shelf.specs.Commits.{after_all}
+use Rattle.scim_store.specs.Commits.{AreDue}
 use Rattle.scim_store.specs.Committing.{Changes}
 use Rattle.scim_store.proofs.committing.write_commits.Given as goal
 

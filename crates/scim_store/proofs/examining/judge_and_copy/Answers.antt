@@ -1,5 +1,5 @@
 use Rattle.std.proofs.Common.{subst}
-use Rattle.scim_shelf.specs.Caches.{Caches}
+use Rattle.scim_shelf_cache.specs.Caches.{Caches}
 use Rattle.scim_store.specs.code.Passing.{ShowsSound}
 use Rattle.scim_store.proofs.CopyLemmas.{copied_all}
 use Rattle.scim_store.proofs.examining.judge_and_copy.Goals as goal

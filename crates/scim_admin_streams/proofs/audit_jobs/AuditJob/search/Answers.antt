@@ -14,7 +14,7 @@ returns-then-self g c =
     let format = old.query.format in
     let empty : string_bytes c.new.result ≡ [] = search rules in
     record {
-      shelf = record { store = λ store was. was; honest = λ is. is };
+      shelf = record { store = λ store was. was; round = λ round has. has; honest = λ is. is };
       piece = λ store stands honest.
           let here = between which old.at old.count store.audit in
           (λ i. lines format (rows_left which (c.requires i) old.skipped old.at old.count store.audit))

@@ -27,7 +27,7 @@ loop-self-preserved g c =
     let long : length names ≡ length c.args.self.now.names.items = (λ k. length (loop.names k).items) in
     let low : i < length names = omega (arith, c.loop-self-test.true, c.min-end.ensures, c.len.ensures, long) in
     record {
-      keeps = record { store = λ store was. c.add_document.ensures.keeps.store store (loop.keeps.store store was); honest = λ is. loop.keeps.honest (c.add_document.ensures.keeps.honest is) };
+      keeps = record { store = λ store was. c.add_document.ensures.keeps.store store (loop.keeps.store store was); round = λ round has. c.add_document.ensures.keeps.round round (loop.keeps.round round has); honest = λ is. loop.keeps.honest (c.add_document.ensures.keeps.honest is) };
       written = λ store was honest exports.
           let all = users_and_groups store.resources in
           let mine = loop.keeps.store store was in

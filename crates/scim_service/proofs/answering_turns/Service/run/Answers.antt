@@ -39,6 +39,7 @@ loop-turn-preserved g c =
           (subst (λ (b : List ℕ). Answered c.loop-turn.self.policy b cause q before.0 r step.0) inv.base step.3) in
           let runs = runs_at policy base q r count now before.0 step.0 c.answer-reply.ensures.grown answered first store qs rs i within turns before.3 in
           (step.0, step.1, kept, subst (λ (n : ℕ). Runs policy base first store (take (i + 1) qs) (take (i + 1) (set rs n r)) now step.0) (sym inv.here) runs);
+      round = λ round has. c.answer-reply.ensures.round round (inv.round round has);
       honest = λ h. inv.honest (c.answer-reply.ensures.honest h);
       grown = omega (arith, inv.grown, c.answer-reply.ensures.grown);
     }

@@ -1,22 +1,42 @@
-use Rattle.std.proofs.Common.{rules, ◌≡◌, true, ℕ, ◌+◌, ◌∷◌, [], ◌++◌, subst, sym, arith, length-append, drop}
-use Rattle.scim_shelf_watch.specs.Watched.{IsWatched, numbered, numbered_row}
-use Rattle.scim_shelf_watch.proofs.WatchedLemmas.{watched_more}
+use Rattle.std.proofs.Common.{rules, ◌≡◌, true, false, Bool, ℕ, List, ◌+◌, ◌∷◌, [], ◌++◌, subst, sym, arith, length-append}
+use Rattle.scim_shelf_watch.specs.Watched.{IsWatched, NumberedRow, numbered_row}
+use Rattle.scim_shelf_watch.proofs.WatchedLemmas.{watched_ahead, watched_more}
 use Rattle.scim_shelf_watch.proofs.watched.WatchedShelfShelf.commit.Goals as goal
 
-pub returns-in-Ok-clause-ok : goal.returns-in-Ok-clause-ok
-returns-in-Ok-clause-ok g c store stands keyed can = (
+pub returns-then-not-self-clause-ok : goal.returns-then-not-self-clause-ok
+returns-then-not-self-clause-ok g c store stands keyed can = (
   search rules,
   λ few.
-      let one_more = length-append store.audit (c.args.row ∷ []) in
-      let watched = stands.1 (omega (arith, few, one_more)) in
-      let number : c.saturating_add-number.result ≡ c.args.self.now.rows + 1 = omega (arith, c.saturating_add-number.ensures, watched.count, few, one_more) in
+      let own = c.args.self.now in
+      let Told = g.W.Watcher.told in
+      let watched = stands.1 (omega (arith, few, length-append store.audit (c.args.row ∷ []))) in
+      let number : c.saturating_add-number.result ≡ own.rows + 1 = omega (arith, c.saturating_add-number.ensures, watched.count, few, length-append store.audit (c.args.row ∷ [])) in
       let allowed : c.allows.result ≡ true = search rules in
-      let told_rows = numbered (c.args.self.now.before + 1) (drop c.args.self.now.before store.audit) in
-      subst (λ (n : ℕ). IsWatched g.W.Watcher.told c.committed.new.self c.args.self.now.before n (store.audit ++ c.args.row ∷ [])) (sym number)
-      (watched_more g.W.Watcher.told c.args.self.now.watcher c.committed.new.self c.args.self.now.before c.args.self.now.rows store.audit c.args.row watched
-      (λ told. c.committed.ensures told_rows (numbered_row (c.args.self.now.rows + 1) c.args.row)
-      (subst (λ (n : ℕ). g.W.Watcher.begun c.begins.new.self told_rows (numbered_row n c.args.row)) number
-      (c.in_ok-begins.ensures.ok told_rows (c.allows.ensures.yes allowed told_rows told))))),
+      let alone : own.in_round ≡ false = search rules in
+      let begins : (done begun : List NumberedRow) → Told own.watcher done begun → Told c.begins.new.self done (begun ++ numbered_row (own.rows + 1) c.args.row ∷ []) =
+      λ done begun told. subst (λ (n : ℕ). Told c.begins.new.self done (begun ++ numbered_row n c.args.row ∷ [])) number (c.in_ok-begins.ensures.ok done begun (c.allows.ensures.yes allowed done begun told)) in
+      let made = watched_more Told own.watcher c.begins.new.self c.committed.new.self own.before own.told_rows own.rows store.audit c.args.row
+      (subst (λ (b : Bool). IsWatched Told own.watcher own.before own.told_rows own.rows b store.audit) alone watched) begins c.committed.ensures in
+      subst (λ (n : ℕ). IsWatched Told c.committed.new.self own.before n n own.in_round (store.audit ++ c.args.row ∷ [])) (sym number)
+      (subst (λ (b : Bool). IsWatched Told c.committed.new.self own.before (own.rows + 1) (own.rows + 1) b (store.audit ++ c.args.row ∷ [])) (sym alone) made),
+)
+
+pub returns-else-not-self-clause-ok : goal.returns-else-not-self-clause-ok
+returns-else-not-self-clause-ok g c store stands keyed can = (
+  search rules,
+  λ few.
+      let own = c.args.self.now in
+      let Told = g.W.Watcher.told in
+      let watched = stands.1 (omega (arith, few, length-append store.audit (c.args.row ∷ []))) in
+      let number : c.saturating_add-number.result ≡ own.rows + 1 = omega (arith, c.saturating_add-number.ensures, watched.count, few, length-append store.audit (c.args.row ∷ [])) in
+      let allowed : c.allows.result ≡ true = search rules in
+      let ahead : own.in_round ≡ true = search rules in
+      let begins : (done begun : List NumberedRow) → Told own.watcher done begun → Told c.begins.new.self done (begun ++ numbered_row (own.rows + 1) c.args.row ∷ []) =
+      λ done begun told. subst (λ (n : ℕ). Told c.begins.new.self done (begun ++ numbered_row n c.args.row ∷ [])) number (c.in_ok-begins.ensures.ok done begun (c.allows.ensures.yes allowed done begun told)) in
+      let made = watched_ahead Told own.watcher c.begins.new.self own.before own.told_rows own.rows store.audit c.args.row
+      (subst (λ (b : Bool). IsWatched Told own.watcher own.before own.told_rows own.rows b store.audit) ahead watched) begins in
+      subst (λ (n : ℕ). IsWatched Told c.begins.new.self own.before own.told_rows n own.in_round (store.audit ++ c.args.row ∷ [])) (sym number)
+      (subst (λ (b : Bool). IsWatched Told c.begins.new.self own.before own.told_rows (own.rows + 1) b (store.audit ++ c.args.row ∷ [])) (sym ahead) made),
 )
 
 -- by name, so that a body that breaks it is refused at once

@@ -1,0 +1,3 @@
+pub mod ContentLemmas
+pub mod RoundLemmas
+pub mod Facts
