@@ -4,3 +4,4 @@ pub mod BodyLemmas
 pub mod IntegerLemmas
 pub mod NameLemmas
 pub mod WantedLemmas
+pub mod Facts

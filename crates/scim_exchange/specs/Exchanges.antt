@@ -77,3 +77,24 @@ Exchanged policy base Cause arrival message store answer next =
     × Finds (named message.method message.target) (query_of message.target) found
     × ComesOf found policy base Cause arrival message store answer next)
     ⊎ IsTold (Refused NoStore) store answer next
+
+-- the refusal `NoToken`, if there is no client
+abbrev pub IsTokenless : Option (List ℕ) → Answer → Type 0
+IsTokenless None answer = answer ≡ Refused NoToken
+IsTokenless (Some client) answer = ⊥
+
+-- the answer, without the service, for the result of finding the endpoint: the refusal if no endpoint was found;
+-- the page or a refusal for a discovery endpoint; the refusal `NoToken` for other endpoints, if there is no client
+abbrev pub IsTurnedAway : Result Found Refusal → Arrival → Answer → Type 0
+IsTurnedAway (Err refusal) arrival answer = answer ≡ Refused refusal
+IsTurnedAway (Ok (Discovery page query)) arrival answer = IsPageOr page (option_copied query) answer
+IsTurnedAway (Ok (Resource route)) arrival answer = IsTokenless (option_copied arrival.client) answer
+
+-- the answer to a message that the service doesn't answer: that of the endpoint which the method and target name,
+-- or the refusal `Store`
+abbrev pub IsUnserved : Arrival → Message → Answer → Type 0
+IsUnserved arrival message answer =
+    ((found : Result Found Refusal)
+    × Finds (named message.method message.target) (query_of message.target) found
+    × IsTurnedAway found arrival answer)
+    ⊎ (answer ≡ Refused NoStore)

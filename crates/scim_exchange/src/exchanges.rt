@@ -1,5 +1,5 @@
 //! Answers one message: finds its endpoint, reads what it asks for, and calls the service.
-ghost use Rattle.std.specs.Prelude.{◌≡◌, ◌≤◌, ◌⊎◌, IfOk};
+ghost use Rattle.std.specs.Prelude.{◌≡◌, ◌≤◌, ◌⊎◌, IfOk, MatchResult, Ok};
 ghost use Rattle.std.specs.Option.{option_copied};
 ghost use Rattle.scim_audit.specs.declared.refusals.Refusal.{Refusal};
 ghost use Rattle.scim_text.specs.Failures.{UnlessMemory};
@@ -7,10 +7,13 @@ ghost use Rattle.scim_route.specs.Targets.{query_of};
 ghost use Rattle.scim_route.specs.Routes.{named, Finds};
 ghost use Rattle.scim_exchange.specs.Asks.{Asks};
 ghost use Rattle.scim_shelf.specs.Stores.{Store, IsStore};
+ghost use Rattle.scim_shelf.specs.Shelves.{KeepsRound};
 ghost use Rattle.scim_service.specs.Answers.{IsCause};
-ghost use Rattle.scim_exchange.specs.Exchanges.{IsTurnOf, IsPageOr, IsServedTo, IsTold, Exchanged};
+ghost use Rattle.scim_route.specs.declared.routes.Found.{Found};
+ghost use Rattle.scim_exchange.specs.Exchanges.{IsTurnOf, IsPageOr, IsServedTo, IsTold, Exchanged, IsTokenless, IsUnserved};
 ghost use Rattle.scim_exchange.specs.code.Faults as spec;
 ghost use Rattle.scim_exchange.specs.declared.answers.Answer.{Answer};
+ghost use Rattle.scim_exchange.specs.declared.exchanges.Arrival.{Arrival as IsArrival};
 ghost use Rattle.scim_service.specs.Setting.{service_base, service_policy, service_shelf, KeepsSetting};
 
 use crate::answers::Answer;
@@ -132,6 +135,7 @@ fn served<S: Shelf>(
         (S.failures (service_shelf service.new)) store) arrival.now
         route.now message.now store result next
         ⊎ IsTold (Answer.Refused Refusal.Store) store result next) }
+    ensures round { KeepsRound S.has_round (service_shelf service.old) (service_shelf service.new) }
     ensures honest { S.is_honest (service_shelf service.new)
         → S.is_honest (service_shelf service.old) }
     ensures grown { S.failures (service_shelf service.old)
@@ -143,6 +147,35 @@ fn served<S: Shelf>(
     match turn_of(alloc, client, arrival, route, message.body.as_slice()) {
         Ok(turn) => Answer::Served(service.answer(alloc, &turn)),
         Err(NoMemory) => Answer::Refused(Refusal::Store),
+    }
+}
+
+/// Returns the route of a request for resources.
+///
+/// Fails with the answer to any other message: the page or the refusal of a request for a discovery page, or the
+/// refusal of a message that names no endpoint. If memory runs out, the answer is the refusal `Store`.
+fn routed<'m>(alloc: Global, routes: &Routes, message: &'m Message) -> Result<Route<'m>, Answer>
+    ensures { MatchResult result (λ route.
+        Finds (named message.now.method message.now.target) (query_of message.now.target)
+        (Ok (Found.Resource route)))
+        (λ answer. (arrival : IsArrival) → IsUnserved arrival message.now answer) }
+{
+    match found_in(alloc, routes, message) {
+        Ok(Found::Discovery(page, query)) => Err(page_answer(alloc, page, query)),
+        Ok(Found::Resource(route)) => Ok(route),
+        Err(fault) => Err(Answer::Refused(refusal_for(fault))),
+    }
+}
+
+/// Returns the answer to a request for resources that doesn't reach the service: the refusal `Store`, or `NoToken`
+/// if `arrival.client` is `None`.
+fn unserved(arrival: &Arrival<'_>) -> Answer
+    ensures { IsTokenless (option_copied arrival.now.client) result
+        ⊎ (result ≡ Answer.Refused Refusal.Store) }
+{
+    match arrival.client {
+        Some(_) => Answer::Refused(Refusal::Store),
+        None => Answer::Refused(Refusal::NoToken),
     }
 }
 
@@ -170,14 +203,30 @@ pub fn answer<S: Shelf>(
         (IsCause (S.failures (service_shelf service.old))
         (S.failures (service_shelf service.new)) store)
         arrival.now message.now store result next }
+    ensures round { KeepsRound S.has_round (service_shelf service.old) (service_shelf service.new) }
     ensures honest { S.is_honest (service_shelf service.new)
         → S.is_honest (service_shelf service.old) }
     ensures grown { S.failures (service_shelf service.old)
         ≤ S.failures (service_shelf service.new) }
 {
-    match found_in(alloc, routes, message) {
-        Ok(Found::Discovery(page, query)) => page_answer(alloc, page, query),
-        Ok(Found::Resource(route)) => served(alloc, service, arrival, &route, message),
-        Err(fault) => Answer::Refused(refusal_for(fault)),
+    match routed(alloc, routes, message) {
+        Ok(route) => served(alloc, service, arrival, &route, message),
+        Err(answer) => answer,
+    }
+}
+
+/// Answers one message as `answer` does, but without the service: a request that would reach the service is
+/// refused with [`Refusal::Store`].
+pub fn answer_unserved(
+    alloc: Global,
+    routes: &Routes,
+    arrival: &Arrival<'_>,
+    message: &Message,
+) -> Answer
+    ensures { IsUnserved arrival.now message.now result }
+{
+    match routed(alloc, routes, message) {
+        Ok(_route) => unserved(arrival),
+        Err(answer) => answer,
     }
 }

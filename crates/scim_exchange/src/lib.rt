@@ -14,4 +14,4 @@ mod searches;
 
 pub use answers::Answer;
 pub use asks::ask;
-pub use exchanges::{Arrival, answer};
+pub use exchanges::{Arrival, answer, answer_unserved};
