@@ -2,6 +2,8 @@ pub mod AnsweringLemmas
 pub mod ConnectionLemmas
 pub mod EventLemmas
 pub mod ExchangeLemmas
+pub mod FinishLemmas
+pub mod RoundLemmas
 pub mod RunLemmas
 pub mod StreamLemmas
 pub mod Facts

@@ -9,6 +9,7 @@ use Rattle.scim_hub.specs.declared.connections.Connection as code
 use Rattle.scim_hub.specs.declared.connections.Connection.TheVariants.{Open, Shut}
 use Rattle.scim_hub.specs.declared.connections.Connections.{Connections}
 use Rattle.scim_hub.specs.declared.events.Event.{Event}
+use Rattle.scim_hub.specs.declared.events.EventAnswer.{EventAnswer}
 use Rattle.scim_hub.specs.declared.events.EventKind.{EventKind}
 use Rattle.scim_hub.specs.declared.events.EventKind.TheVariants.{Joined, Piece, Left}
 use Rattle.scim_hub.specs.declared.events.HubFault.{HubFault}
@@ -67,3 +68,7 @@ output_of (output.Shut n) = shutting n
 abbrev pub done : Result (Vec Output) HubFault → Result (List HubOutput) HubFault
 done (Ok outputs) = Ok (map output_of outputs.items)
 done (Err fault) = Err fault
+
+-- the outputs for an event of a round, or its error, in the type of the specification
+abbrev pub result_of : EventAnswer → Result (List HubOutput) HubFault
+result_of answer = done answer.result

@@ -1,4 +1,5 @@
 -- The results of the hub's functions.
 pub mod Changes
 pub mod Replies
+pub mod Rounds
 pub mod Servings

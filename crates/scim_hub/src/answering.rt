@@ -1,19 +1,21 @@
 //! Answers the items of an event.
-ghost use Rattle.std.specs.Prelude.{◌≡◌, ◌||◌, false, List};
+ghost use Rattle.std.specs.Prelude.{◌≡◌, ◌||◌, false, List, Option, ⊤};
 ghost use Rattle.std.specs.Option.{option_copied};
 ghost use Rattle.scim_token.specs.TokenFile.{Entry};
 ghost use Rattle.scim_token.specs.Tokens.{Knows};
 ghost use Rattle.scim_shelf.specs.Stores.{Store, IsStore};
+ghost use Rattle.scim_shelf.specs.Shelves.{KeepsRound};
 ghost use Rattle.scim_hub.specs.Answering as spec;
 ghost use Rattle.scim_hub.specs.Answering.{Arrives};
 ghost use Rattle.scim_exchange.specs.Replies.{answer_text};
-ghost use Rattle.scim_hub.specs.code.Replies.{Says, IsReplyToItem, IsReplyToMessage, AreReplies};
+ghost use Rattle.scim_exchange.specs.Exchanges.{Exchanged};
+ghost use Rattle.scim_hub.specs.code.Replies.{IsOver, Says, IsReplyToItem, IsReplyToMessage, AreReplies};
 ghost use Rattle.scim_service.specs.Setting.{service_base, service_policy, service_shelf, KeepsSetting};
 
 use crate::events::{Output, Stamp};
 use scim_audit::Refusal;
 use scim_cell::{Id, id_of, uuid_of};
-use scim_exchange::{Answer, Arrival, answer};
+use scim_exchange::{Answer, Arrival, answer, answer_unserved};
 use scim_route::Routes;
 use scim_service::Service;
 use scim_shelf::Shelf;
@@ -25,6 +27,15 @@ use uuid::Uuid;
 
 /// The text that tells a client to send the body (RFC 9110 section 15.2.1).
 pub(crate) const CONTINUE: &str = "HTTP/1.1 100 Continue\r\n\r\n";
+
+/// Whether the service answers requests for resources.
+#[derive(Clone, Copy)]
+pub(crate) enum Serving {
+    /// The service answers them.
+    Live,
+    /// Each request that would reach the service is refused with [`Refusal::Store`].
+    Lost,
+}
 
 /// The reply to an item.
 #[derive(Drop)]
@@ -129,27 +140,59 @@ fn continue_reply(alloc: Global) -> Result<Reply, NoMemory>
     })
 }
 
+/// Answers a message, by the service or without it.
+fn answer_by<S: Shelf>(
+    alloc: Global,
+    routes: &Routes,
+    service: &mut Service<S>,
+    serving: Serving,
+    arrival: &Arrival<'_>,
+    message: &Message,
+) -> Answer
+    ensures keeps { KeepsSetting service.old service.new }
+    ensures exchanged { (held : Option Store) (store : Store)
+        → IsOver serving S.stands held (service_shelf service.old) store
+        → S.is_honest (service_shelf service.new) → IsStore (service_base service.old) store
+        → (next : Store) × IsOver serving S.stands held (service_shelf service.new) next
+        × IsStore (service_base service.old) next
+        × Exchanged (service_policy service.old) (service_base service.old) (λ _. ⊤)
+        arrival.now message.now store result next }
+    ensures lost { serving ≡ Serving.Lost → service.new ≡ service.old }
+    ensures round { KeepsRound S.has_round (service_shelf service.old) (service_shelf service.new) }
+    ensures honest { S.is_honest (service_shelf service.new)
+        → S.is_honest (service_shelf service.old) }
+{
+    match serving {
+        Serving::Live => answer(alloc, routes, service, arrival, message),
+        Serving::Lost => answer_unserved(alloc, routes, arrival, message),
+    }
+}
+
 /// Answers a message. Fails with `NoMemory` if the reply's text can't be allocated; the changes that the
 /// message made remain committed.
 fn answer_message<S: Shelf>(
     alloc: Global,
     routes: &Routes,
     service: &mut Service<S>,
+    serving: Serving,
     arrival: &Arrival<'_>,
     message: &Message,
 ) -> Result<Reply, NoMemory>
     ensures keeps { KeepsSetting service.old service.new }
-    ensures answered { (store : Store) → S.stands (service_shelf service.old) store
+    ensures answered { (held : Option Store) (store : Store)
+        → IsOver serving S.stands held (service_shelf service.old) store
         → S.is_honest (service_shelf service.new) → IsStore (service_base service.old) store
-        → (next : Store) × S.stands (service_shelf service.new) next
+        → (next : Store) × IsOver serving S.stands held (service_shelf service.new) next
         × IsStore (service_base service.old) next
         × IsReplyToMessage (service_policy service.old)
         (service_base service.old) arrival.now message.now store result
         next }
+    ensures lost { serving ≡ Serving.Lost → service.new ≡ service.old }
+    ensures round { KeepsRound S.has_round (service_shelf service.old) (service_shelf service.new) }
     ensures honest { S.is_honest (service_shelf service.new)
         → S.is_honest (service_shelf service.old) }
 {
-    let answer = answer(alloc, routes, service, arrival, message);
+    let answer = answer_by(alloc, routes, service, serving, arrival, message);
     reply_with(alloc, &answer, ReplyForm::of(message))
 }
 
@@ -161,20 +204,24 @@ fn answer_item<S: Shelf>(
     alloc: Global,
     routes: &Routes,
     service: &mut Service<S>,
+    serving: Serving,
     tokens: &Tokens,
     stamp: &Stamp,
     count: usize,
     item: &Item,
 ) -> Result<Reply, NoMemory>
     ensures keeps { KeepsSetting service.old service.new }
-    ensures answered { (entries : List Entry) (store : Store) → Knows entries tokens.now
-        → S.stands (service_shelf service.old) store
+    ensures answered { (entries : List Entry) (held : Option Store) (store : Store)
+        → Knows entries tokens.now
+        → IsOver serving S.stands held (service_shelf service.old) store
         → S.is_honest (service_shelf service.new) → IsStore (service_base service.old) store
-        → (next : Store) × S.stands (service_shelf service.new) next
+        → (next : Store) × IsOver serving S.stands held (service_shelf service.new) next
         × IsStore (service_base service.old) next
         × IsReplyToItem (service_policy service.old)
         (service_base service.old) entries stamp.now count item.now store
         result next }
+    ensures lost { serving ≡ Serving.Lost → service.new ≡ service.old }
+    ensures round { KeepsRound S.has_round (service_shelf service.old) (service_shelf service.new) }
     ensures honest { S.is_honest (service_shelf service.new)
         → S.is_honest (service_shelf service.old) }
 {
@@ -182,7 +229,7 @@ fn answer_item<S: Shelf>(
         Item::Continue => continue_reply(alloc),
         Item::Whole(message) => {
             let arrival = arrival_of(tokens, stamp, count, message);
-            answer_message(alloc, routes, service, &arrival, message)
+            answer_message(alloc, routes, service, serving, &arrival, message)
         }
         Item::Refused(refusal) => {
             reply_with(alloc, &Answer::Refused(*refusal), ReplyForm::whole(true))
@@ -207,20 +254,24 @@ pub(crate) fn answer_items<S: Shelf>(
     alloc: Global,
     routes: &Routes,
     service: &mut Service<S>,
+    serving: Serving,
     tokens: &Tokens,
     stamp: &Stamp,
     connection: u64,
     items: &[Item],
 ) -> Result<Replies, NoMemory>
     ensures keeps { KeepsSetting service.old service.new }
-    ensures answered { (entries : List Entry) (store : Store) → Knows entries tokens.now
-        → S.stands (service_shelf service.old) store
+    ensures answered { (entries : List Entry) (held : Option Store) (store : Store)
+        → Knows entries tokens.now
+        → IsOver serving S.stands held (service_shelf service.old) store
         → S.is_honest (service_shelf service.new) → IsStore (service_base service.old) store
-        → (next : Store) × S.stands (service_shelf service.new) next
+        → (next : Store) × IsOver serving S.stands held (service_shelf service.new) next
         × IsStore (service_base service.old) next
         × AreReplies (service_policy service.old)
         (service_base service.old) entries stamp.now connection items.now
         store result next }
+    ensures lost { serving ≡ Serving.Lost → service.new ≡ service.old }
+    ensures round { KeepsRound S.has_round (service_shelf service.old) (service_shelf service.new) }
     ensures honest { S.is_honest (service_shelf service.new)
         → S.is_honest (service_shelf service.old) }
 {
@@ -228,7 +279,7 @@ pub(crate) fn answer_items<S: Shelf>(
     let mut count = 0;
     let mut refused: u64 = 0;
     for item in items {
-        let reply = answer_item(alloc, routes, service, tokens, stamp, count, item)?;
+        let reply = answer_item(alloc, routes, service, serving, tokens, stamp, count, item)?;
         let Reply {
             text,
             closes,

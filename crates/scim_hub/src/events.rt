@@ -61,6 +61,15 @@ pub enum Output {
     Shut(u64),
 }
 
+/// What a hub answers to an event of a round.
+#[derive(Drop)]
+pub struct EventAnswer {
+    /// The outputs for the event's connection, in order, or the error of the event.
+    pub result: Result<Vec<Output>, HubFault>,
+    /// The number of messages of the event that were refused because no client has their token, 2^64 - 1 at most.
+    pub refused: u64,
+}
+
 /// The error if the hub can't handle an event.
 #[derive(Clone, Copy, Debug, PartialEq, Eq, Error)]
 pub enum HubFault {

@@ -1,19 +1,21 @@
 //! The hub, which serves many connections with one service.
-ghost use Rattle.std.specs.Prelude.{◌≡◌, ◌≤◌, List, IfOk, OnErr, map};
+ghost use Rattle.std.specs.Prelude.{◌≡◌, ◌<◌, ◌≤◌, List, IfOk, OnErr, length, map, take};
 ghost use Rattle.std.specs.Borrow.{Lends, sem};
 ghost use Rattle.scim_token.specs.TokenFile.{Entry};
 ghost use Rattle.scim_token.specs.Tokens.{Knows};
 ghost use Rattle.scim_shelf.specs.Stores.{Store, IsStore};
+ghost use Rattle.scim_shelf.specs.Shelves.{KeepsRound, settled};
 ghost use Rattle.scim_hub.specs.Events.{HubState, Hears, Runs, none_joined};
-ghost use Rattle.scim_hub.specs.HubStates.{IsHubState, event_of, done};
-ghost use Rattle.scim_hub.specs.code.Changes.{TakesPiece};
+ghost use Rattle.scim_hub.specs.HubStates.{IsHubState, event_of, owned_event_of, done, result_of};
+ghost use Rattle.scim_hub.specs.code.Rounds.{piece_event};
 ghost use Rattle.scim_service.specs.Setting.{service_base, service_shelf};
 ghost use Rattle.scim_hub.specs.HubSetting.{hub_base, hub_policy, hub_shelf, hub_tokens, refused_tokens_of, with_hub_shelf, with_hub_setting, KeepsHubSetting};
 ghost use Rattle.scim_hub.specs.contracts.hubs.Hub.{the_row};
 
-use crate::answering::{Replies, answer_items};
 use crate::connections::Connections;
-use crate::events::{Event, EventKind, HubFault, Output, Stamp};
+use crate::events::{Event, EventAnswer, EventKind, HubFault, Output};
+use crate::owned_events::OwnedEvent;
+use crate::rounds::{Pace, Piece};
 use scim_policy::Policy;
 use scim_route::Routes;
 use scim_service::Service;
@@ -28,12 +30,12 @@ use std::alloc::Global;
 /// completes are answered in order, each on behalf of the client that has the message's token. After a reply
 /// that closes the connection, the hub shuts the connection and ignores the rest of its stream.
 pub struct Hub<S> {
-    routes: Routes,
-    service: Service<S>,
-    tokens: Tokens,
-    connections: Connections,
+    pub(crate) routes: Routes,
+    pub(crate) service: Service<S>,
+    pub(crate) tokens: Tokens,
+    pub(crate) connections: Connections,
     /// The number of messages that were refused because no client has their token, 2^64 - 1 at most.
-    refused: u64,
+    pub(crate) refused: u64,
 }
 
 impl<S: Drop> Drop for Hub<S> {
@@ -87,6 +89,7 @@ impl<S: Shelf> Hub<S> {
             → (next : HubState) × IsHubState S.stands self.new next
             × Hears (hub_policy self.old) (hub_base self.old) entries (event_of event.now) state
             (done result) next }
+        ensures round { KeepsRound S.has_round (hub_shelf self.old) (hub_shelf self.new) }
         ensures honest { S.is_honest (hub_shelf self.new) → S.is_honest (hub_shelf self.old) }
         ensures refused { refused_tokens_of self.old ≤ refused_tokens_of self.new }
     {
@@ -95,7 +98,14 @@ impl<S: Shelf> Hub<S> {
                 self.connections.join(alloc, event.connection)?;
                 Ok(Vec::new(alloc))
             }
-            EventKind::Piece(piece) => self.take(alloc, event.connection, &event.stamp, piece),
+            EventKind::Piece(bytes) => {
+                let piece = Piece {
+                    connection: event.connection,
+                    stamp: event.stamp,
+                    bytes,
+                };
+                self.take(alloc, &piece)
+            }
             EventKind::Left => {
                 self.connections.leave(event.connection)?;
                 Ok(Vec::new(alloc))
@@ -108,59 +118,20 @@ impl<S: Shelf> Hub<S> {
     /// Fails with `Unknown` if no connection has the number, and with `Closed` if the connection is shut;
     /// then nothing has changed. After `NoMemory` the connection is shut, while the changes of its requests
     /// remain committed.
-    fn take(
-        &mut self,
-        alloc: Global,
-        connection: u64,
-        stamp: &Stamp,
-        piece: &[u8],
-    ) -> Result<Vec<Output>, HubFault>
+    fn take(&mut self, alloc: Global, piece: &Piece<'_>) -> Result<Vec<Output>, HubFault>
         ensures keeps { KeepsHubSetting self.old self.new }
         ensures heard { (entries : List Entry) (state : HubState)
             → Knows entries (hub_tokens self.old)
             → IsHubState S.stands self.old state → S.is_honest (hub_shelf self.new)
             → (next : HubState) × IsHubState S.stands self.new next
-            × TakesPiece (hub_policy self.old) (hub_base self.old) entries stamp.now connection
-            piece.now state (done result) next }
+            × Hears (hub_policy self.old) (hub_base self.old) entries (piece_event piece.now) state
+            (done result) next }
+        ensures round { KeepsRound S.has_round (hub_shelf self.old) (hub_shelf self.new) }
         ensures honest { S.is_honest (hub_shelf self.new) → S.is_honest (hub_shelf self.old) }
         ensures refused { refused_tokens_of self.old ≤ refused_tokens_of self.new }
     {
-        let items = self.connections.feed(alloc, connection, piece)?;
-        match answer_items(
-            alloc,
-            &self.routes,
-            &mut self.service,
-            &self.tokens,
-            stamp,
-            connection,
-            items.as_slice(),
-        ) {
-            Ok(
-                Replies {
-                    outputs,
-                    closed: true,
-                    refused,
-                },
-            ) => {
-                self.refused = self.refused.saturating_add(refused);
-                self.connections.shut(connection);
-                Ok(outputs)
-            }
-            Ok(
-                Replies {
-                    outputs,
-                    refused,
-                    ..
-                },
-            ) => {
-                self.refused = self.refused.saturating_add(refused);
-                Ok(outputs)
-            }
-            Err(NoMemory) => {
-                self.connections.shut(connection);
-                Err(HubFault::NoMemory)
-            }
-        }
+        let taken = self.take_in(alloc, piece);
+        self.conclude(alloc, true, piece, taken).result
     }
 
     /// Handles events one after another, and returns the result of each.
@@ -180,6 +151,7 @@ impl<S: Shelf> Hub<S> {
             × Runs (hub_policy self.old) (hub_base self.old) entries state
             (map event_of events.now) (map done results.items) next) }
         ensures nothing { OnErr result (self.new ≡ self.old) }
+        ensures round { KeepsRound S.has_round (hub_shelf self.old) (hub_shelf self.new) }
         ensures honest { S.is_honest (hub_shelf self.new) → S.is_honest (hub_shelf self.old) }
     {
         let mut results = Vec::with_capacity(alloc, events.len())?;
@@ -188,6 +160,52 @@ impl<S: Shelf> Hub<S> {
             results.push(result).unwrap();
         }
         Ok(results)
+    }
+
+    /// Handles the first of these events, and as many of those behind it as a round takes, and returns the answer
+    /// to each. No answer is returned before the changes of all of them are on the shelf's device.
+    ///
+    /// A round takes pieces of different connections, as long as the shelf has rounds and `pace` goes on. If the
+    /// shelf can't put their changes on its device, none of them is made, and each request that reached the
+    /// service is refused with [`scim_audit::Refusal::Store`]. Connections that don't belong to the round aren't
+    /// affected.
+    ///
+    /// Fails with `NoMemory` if the list of answers can't be allocated. Then no event has been handled, and the hub
+    /// is unchanged.
+    pub fn round<P: Pace>(
+        &mut self,
+        alloc: Global,
+        events: &[OwnedEvent],
+        pace: &P,
+    ) -> Result<Vec<EventAnswer>, NoMemory>
+        ensures keeps { KeepsHubSetting self.old self.new }
+        ensures some { IfOk result (λ answers. 0 < length events.now → 0 < length answers.items) }
+        ensures ran { IfOk result (λ answers. (entries : List Entry) (state : HubState)
+            → Knows entries (hub_tokens self.old) → IsHubState S.stands self.old state
+            → S.has_round (hub_shelf self.old) settled → S.is_honest (hub_shelf self.new)
+            → (next : HubState) × IsHubState S.stands self.new next
+            × Runs (hub_policy self.old) (hub_base self.old) entries state
+            (map owned_event_of (take (length answers.items) events.now))
+            (map result_of answers.items) next) }
+        ensures nothing { OnErr result (self.new ≡ self.old) }
+        ensures settled { (store : Store) → S.stands (hub_shelf self.old) store
+            → S.has_round (hub_shelf self.old) settled
+            → S.has_round (hub_shelf self.new) settled }
+        ensures honest { S.is_honest (hub_shelf self.new) → S.is_honest (hub_shelf self.old) }
+        ensures refused { refused_tokens_of self.old ≤ refused_tokens_of self.new }
+    {
+        let mut answers = Vec::with_capacity(alloc, events.len())?;
+        let members = Vec::with_capacity(alloc, events.len())?;
+        let [first, rest @ ..] = events else {
+            return Ok(answers);
+        };
+        match self.begin(alloc, first, rest) {
+            Some(piece) => Ok(self.together(alloc, &piece, rest, pace, members, answers)),
+            None => {
+                answers.push(self.alone(alloc, first)).unwrap();
+                Ok(answers)
+            }
+        }
     }
 
     /// Returns the policy.

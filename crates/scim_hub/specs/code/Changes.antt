@@ -1,18 +1,15 @@
 -- The results of changes to connections.
 use Rattle.std.specs.Prelude.{◌≡◌, ℕ, List, [], ◌++◌, Option, Some, Result, Ok, Err, MatchResult}
 use Rattle.std.specs.Global.{Vec}
-use Rattle.scim_policy.specs.Rules.{Rule}
 use Rattle.scim_wire.specs.declared.messages.Item.{Item}
 use Rattle.scim_wire.specs.Messages.{HasItems}
 use Rattle.scim_wire.specs.Wires.{StandsFor}
-use Rattle.scim_token.specs.TokenFile.{Entry}
 use Rattle.scim_hub.specs.declared.connections.Connection as code
 use Rattle.scim_hub.specs.declared.connections.Connection.TheVariants.{Open, Shut}
 use Rattle.scim_hub.specs.declared.connections.Connections.{Connections}
 use Rattle.scim_hub.specs.declared.events.HubFault.{HubFault}
 use Rattle.scim_hub.specs.declared.events.HubFault.TheVariants.{AlreadyJoined, Unknown, Closed, NoMemory}
-use Rattle.scim_hub.specs.declared.events.Stamp.{Stamp}
-use Rattle.scim_hub.specs.Events.{Connection, absent, joined, shut, set, HubState, HubOutput, Takes}
+use Rattle.scim_hub.specs.Events.{Connection, absent, joined, shut, set}
 use Rattle.scim_hub.specs.HubStates.{AreConnections, IsKept}
 
 -- an open connection has read the piece, or is shut after `NoMemory`
@@ -54,7 +51,3 @@ IsPieceTaken (joined stream items) n bytes connections (Err fault) kept = (fault
 IsPieceTaken absent n bytes connections (Err fault) kept = (fault ≡ Unknown) × AreConnections kept connections
 IsPieceTaken shut n bytes connections (Err fault) kept = (fault ≡ Closed) × AreConnections kept connections
 IsPieceTaken _ n bytes connections (Ok new) kept = ⊥
-
--- the result and the next state of the hub for the next piece of a connection's stream
-abbrev pub TakesPiece : List Rule → List ℕ → List Entry → Stamp → ℕ → List ℕ → HubState → Result (List HubOutput) HubFault → HubState → Type 0
-TakesPiece policy base entries stamp n bytes state result next = Takes policy base entries (state.connections n) stamp n bytes state result next

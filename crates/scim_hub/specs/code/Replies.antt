@@ -1,5 +1,5 @@
 -- The results of functions that answer items.
-use Rattle.std.specs.Prelude.{◌≡◌, ℕ, Bool, List, ◌++◌, map, Result, Ok, Err, IfOk, string_bytes}
+use Rattle.std.specs.Prelude.{◌≡◌, ℕ, Bool, List, ◌++◌, map, Option, None, Some, Result, Ok, Err, IfOk, string_bytes}
 use Rattle.scim_policy.specs.Rules.{Rule}
 use Rattle.scim_shelf.specs.Stores.{Store, IsStore}
 use Rattle.scim_text.specs.declared.memory.NoMemory.{NoMemory}
@@ -8,12 +8,21 @@ use Rattle.scim_wire.specs.declared.messages.Message.{Message}
 use Rattle.scim_token.specs.TokenFile.{Entry}
 use Rattle.scim_exchange.specs.declared.exchanges.Arrival.{Arrival}
 use Rattle.scim_hub.specs.declared.answering.Reply.{Reply}
+use Rattle.scim_hub.specs.declared.answering.Serving.{Serving}
+use Rattle.scim_hub.specs.declared.answering.Serving.TheVariants.{Live, Lost}
 use Rattle.scim_hub.specs.declared.answering.Replies.{Replies}
 use Rattle.scim_hub.specs.declared.events.Stamp.{Stamp}
 use Rattle.scim_hub.specs.declared.events.Output.{Output}
 use Rattle.scim_hub.specs.Answering.{IsReplied, IsAnswered, AreAnswered}
 use Rattle.scim_hub.specs.Events.{hub_outputs, writing}
 use Rattle.scim_hub.specs.HubStates.{output_of}
+
+-- the store that requests are answered over: the one that the shelf contains if the service answers them, and
+-- otherwise any store, which stays as it is
+abbrev pub IsOver : {H : Type 0} → Serving → (H → Store → Type 0) → Option Store → H → Store → Type 0
+IsOver Live Stands None shelf store = Stands shelf store
+IsOver Lost Stands (Some held) shelf store = store ≡ held
+IsOver _ Stands held shelf store = ⊥
 
 -- the reply has this text, and `closing` tells whether it closes the connection, unless the result is
 -- `NoMemory`

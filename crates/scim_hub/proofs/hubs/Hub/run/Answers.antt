@@ -43,5 +43,6 @@ loop-event-preserved g c =
             subst (λ (xs : List HubEvent). Runs policy base entries state xs (map done c.push.new.self.items) step.0) (sym seen)
                 (subst (λ (ys : List (Result (List HubOutput) HubFault)). Runs policy base entries state (map event_of (take i events) ++ event_of event ∷ []) ys step.0) (sym told) runs),
           );
+      round = λ round has. c.event-result.ensures.round round (inv.round round has);
       honest = λ h. inv.honest (c.event-result.ensures.honest h);
     }
