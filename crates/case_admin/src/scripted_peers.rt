@@ -4,7 +4,7 @@ ghost use Rattle.std.specs.Prelude.{◌≤◌, length};
 use crate::outputs::Outputs;
 use crate::turns::{Turn, client_event};
 use case_values::CaseFault;
-use scim_hub::{OwnedEventKind, Stamp};
+use scim_hub::{OwnedEvent, OwnedEventKind, Pace, Stamp};
 use scim_serve::{AdminEvent, AdminEventKind, Figures, Note, PeerEvent, Peers, PeersFault};
 use std::alloc::Global;
 use std::collections::VecDeque;
@@ -87,6 +87,12 @@ impl ScriptedPeers {
     }
 }
 
+impl Pace for ScriptedPeers {
+    fn goes_on(&self) -> bool {
+        true
+    }
+}
+
 impl Peers for ScriptedPeers {
     ghost use Rattle.std.specs.Prelude.{false, []};
 
@@ -110,6 +116,10 @@ impl Peers for ScriptedPeers {
             return Ok(Some(event));
         }
         Ok(self.report())
+    }
+
+    fn next_ready(&mut self, _alloc: Global) -> Option<OwnedEvent> {
+        None
     }
 
     fn write(&mut self, connection: u64, bytes: &[u8]) -> usize {

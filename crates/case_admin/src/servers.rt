@@ -12,7 +12,8 @@ use scim_hub::Hub;
 use scim_route::Routes;
 use scim_serve::serve;
 use scim_service::Service;
-use scim_shelf::CachedShelf;
+use scim_shelf::BatchShelf;
+use scim_shelf_cache::CachedShelf;
 use scim_shelf_watch::WatchedShelf;
 use sqlite::{Alter, Connection};
 
@@ -40,7 +41,10 @@ impl OverDatabase for Administered {
 }
 
 /// Returns a store with a cache, which isn't filled yet if the case is `unfilled`.
-fn with_cache<S: Audited>(case: &Case<'_>, shelf: S) -> Result<CachedShelf<S>, StoreFault> {
+fn with_cache<S: Audited + BatchShelf>(
+    case: &Case<'_>,
+    shelf: S,
+) -> Result<CachedShelf<S>, StoreFault> {
     if case.is_true("unfilled") {
         Ok(CachedShelf::over(shelf))
     } else {

@@ -1,9 +1,9 @@
 //! Connections in memory whose events come from a script.
-ghost use Rattle.std.specs.Prelude.{◌≡◌, ◌≤◌, ◌++◌, ◌==◌, IfOk, length, take, true};
+ghost use Rattle.std.specs.Prelude.{◌≡◌, ◌≤◌, ◌++◌, ◌∷◌, ◌==◌, [], IfOk, IfSome, length, take, true};
 ghost use Rattle.scim_hub.specs.HubStates.{owned_event_of};
 ghost use Rattle.case_peers.specs.Peers.{heard_in};
 
-use scim_hub::{OwnedEvent, OwnedEventKind, Stamp};
+use scim_hub::{OwnedEvent, OwnedEventKind, Pace, Stamp};
 use scim_serve::{AdminEvent, AdminEventKind, Figures, Note, PeerEvent, Peers, PeersFault};
 use std::alloc::{AllocError, Global};
 
@@ -67,6 +67,10 @@ pub struct ScriptedPeers {
     script: Vec<PeerEvent>,
     /// The number of events reported so far.
     reported: usize,
+    /// The number of events reported before the last event of `next`, or before its last `Ready`.
+    since: usize,
+    /// Whether `next_ready` reports pieces.
+    gathers: bool,
     /// The connections that took fewer bytes than they were offered and may take more. The last of them is
     /// reported next.
     ready: Vec<u64>,
@@ -159,8 +163,29 @@ fn copy_of(alloc: Global, event: &PeerEvent) -> Result<PeerEvent, AllocError>
     })
 }
 
+/// Whether the connections report this as an event of the client's connection with the number.
+fn is_of(event: &PeerEvent, connection: u64) -> bool {
+    match event {
+        PeerEvent::Event(event) => event.connection == connection,
+        PeerEvent::Ready(_) | PeerEvent::Admin(_) | PeerEvent::Tick => false,
+    }
+}
+
+/// Copies a piece of a client's connection; `None` if this is no such piece, or if memory runs out.
+fn piece_copy(alloc: Global, event: &PeerEvent) -> Option<OwnedEvent>
+    ensures { IfSome result (λ copy. heard_in event.now ≡ owned_event_of copy ∷ []) }
+{
+    match event {
+        PeerEvent::Event(event) => match &event.kind {
+            OwnedEventKind::Piece(_) => client_copy(alloc, event).ok(),
+            OwnedEventKind::Joined | OwnedEventKind::Left => None,
+        },
+        PeerEvent::Ready(_) | PeerEvent::Admin(_) | PeerEvent::Tick => None,
+    }
+}
+
 impl ScriptedPeers {
-    /// Returns connections with these events, in order.
+    /// Returns connections with these events, in order. Each is reported alone.
     pub fn new(
         alloc: Global,
         step: usize,
@@ -173,6 +198,8 @@ impl ScriptedPeers {
         Ok(ScriptedPeers {
             script,
             reported: 0,
+            since: 0,
+            gathers: false,
             ready: Vec::new(alloc),
             step,
             is_over: false,
@@ -182,6 +209,33 @@ impl ScriptedPeers {
             admin: ScriptedPeer::new(alloc),
             refused_tokens: 0,
         })
+    }
+
+    /// Returns connections with these events, in order. The pieces of different connections that follow one another
+    /// are ready at the same time.
+    pub fn in_rounds(
+        alloc: Global,
+        step: usize,
+        events: &[ScriptedEvent<'_>],
+    ) -> Result<ScriptedPeers, AllocError> {
+        let mut peers = ScriptedPeers::new(alloc, step, events)?;
+        peers.gathers = true;
+        Ok(peers)
+    }
+
+    /// Whether the client's connection with the number has reported an event since the last call of `next`.
+    fn has_reported(&self, connection: u64) -> bool {
+        self.script
+            .iter()
+            .take(self.reported)
+            .skip(self.since)
+            .any(|event| is_of(event, connection))
+    }
+}
+
+impl Pace for ScriptedPeers {
+    fn goes_on(&self) -> bool {
+        true
     }
 }
 
@@ -203,6 +257,7 @@ impl Peers for ScriptedPeers {
 
     fn next(&mut self, alloc: Global) -> Result<Option<PeerEvent>, PeersFault> {
         self.is_over = false;
+        self.since = self.reported;
         if let Some(connection) = self.ready.pop() {
             return Ok(Some(PeerEvent::Ready(connection)));
         }
@@ -221,6 +276,18 @@ impl Peers for ScriptedPeers {
             }
             Err(_) => Err(PeersFault),
         }
+    }
+
+    fn next_ready(&mut self, alloc: Global) -> Option<OwnedEvent> {
+        if !self.gathers || self.is_stopped {
+            return None;
+        }
+        let event = piece_copy(alloc, self.script.as_slice().get(self.reported)?)?;
+        if self.has_reported(event.connection) {
+            return None;
+        }
+        self.reported += 1;
+        Some(event)
     }
 
     fn write(&mut self, connection: u64, bytes: &[u8]) -> usize {

@@ -3,8 +3,10 @@ pub mod ClosingLemmas
 pub mod EventLemmas
 pub mod FitLemmas
 pub mod LawLemmas
+pub mod LeadLemmas
 pub mod LevelLemmas
 pub mod OccurrenceLemmas
 pub mod ReachedLemmas
+pub mod RunLemmas
 pub mod ServedLemmas
 pub mod WholeLemmas

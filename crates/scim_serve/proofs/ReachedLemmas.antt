@@ -1,17 +1,17 @@
 -- What is reached, after one more report of the connections.
-use Rattle.std.proofs.Common.{◌≡◌, ◌∙◌, refl, sym, ap, subst, ℕ, Bool, true, false, List, [], ◌∷◌, ◌++◌}
+use Rattle.std.proofs.Common.{◌≡◌, ◌∙◌, refl, sym, ap, subst, ℕ, Bool, true, false, List, [], ◌∷◌, ◌++◌, map}
 use Rattle.std.specs.Prelude.{◌||◌, Result}
 use Rattle.scim_policy.specs.Rules.{Rule}
 use Rattle.scim_token.specs.TokenFile.{Entry}
 use Rattle.scim_token.specs.Tokens.{Knows}
 use Rattle.scim_token.specs.declared.token_table.Tokens.{Tokens}
 use Rattle.scim_hub.specs.declared.events.HubFault.{HubFault}
-use Rattle.scim_hub.specs.Events.{HubEvent, HubOutput, HubState, Hears}
+use Rattle.scim_hub.specs.Events.{HubEvent, HubOutput, HubState, Hears, Runs}
 use Rattle.scim_serve.specs.declared.pending_bytes.Waiting.{Waiting}
 use Rattle.scim_serve.specs.Occurrences.{Occurrence, hears, reloads, heard, reloaded, RunsThrough}
 use Rattle.scim_serve.specs.Serving.{AreServed, due, due_for, is_shut, shut_for}
 use Rattle.scim_serve.specs.code.Served.{IsServed, IsReached, Start}
-use Rattle.scim_serve.proofs.OccurrenceLemmas.{heard_more, heard_still, reloaded_still, through_hears, through_reloads}
+use Rattle.scim_serve.proofs.OccurrenceLemmas.{heard_more, heard_still, heard_all, reloaded_still, reloaded_all, through_hears, through_reloads, through_runs}
 use Rattle.scim_serve.proofs.ServedLemmas.{served_same, served_more, served_each}
 
 module _ (start : Start) (may_reload : Bool) (seen : List HubEvent) (written written_then : ℕ → List ℕ) (takes takes_then closed closed_then : ℕ → Bool) (old new : Waiting)
@@ -93,6 +93,31 @@ module _ (start : Start) (may_reload : Bool) (seen : List HubEvent) (written wri
             (through_hears start.base policy reached.entries event step.0 step.1 start.policy start.entries start.state reached.state reached.occurrences reached.results reached.runs step.3);
         served = served_more start.state step.1 (seen ++ event ∷ []) written_then takes_then closed_then new reached.results step.0
             (step.4 (λ m. due m reached.results) (λ m. is_shut m reached.results) reached.served);
+      }
+
+  -- the hub heard several events, one after another
+  pub reached_run : (events : List HubEvent) (more : List (Result (List HubOutput) HubFault)) → policy_then ≡ policy → tokens_then ≡ tokens
+      → ((entries : List Entry) (state : HubState) → Knows entries tokens → IsIn state
+      → (next : HubState) × IsInThen next × Runs policy start.base entries state events more next
+      × ((results : List (Result (List HubOutput) HubFault)) → IsServed start.state state seen written takes closed old (λ m. due m results) (λ m. is_shut m results)
+      → IsServed start.state next (seen ++ events) written_then takes_then closed_then new (λ m. due m (results ++ more)) (λ m. is_shut m (results ++ more))))
+      → IsReached start may_reload seen written takes closed old policy tokens IsIn
+      → IsReached start may_reload (seen ++ events) written_then takes_then closed_then new policy_then tokens_then IsInThen
+  reached_run events more same_policy same_tokens hears_them reached =
+      let step = hears_them reached.entries reached.state reached.knows reached.is_in in
+      record {
+        occurrences = reached.occurrences ++ map hears events;
+        results = reached.results ++ more;
+        entries = reached.entries;
+        state = step.0;
+        heard_is = heard_all reached.occurrences events ∙ ap (λ (before : List HubEvent). before ++ events) reached.heard_is;
+        none_reloaded = λ never. reloaded_all reached.occurrences events ∙ reached.none_reloaded never;
+        knows = subst (λ (t : Tokens). Knows reached.entries t) (sym same_tokens) reached.knows;
+        is_in = step.1;
+        runs = subst (λ (p : List Rule). RunsThrough start.base start.policy start.entries start.state (reached.occurrences ++ map hears events) (reached.results ++ more) p reached.entries step.0)
+            (sym same_policy)
+            (through_runs start.base policy reached.entries events more step.0 start.policy start.entries start.state reached.state reached.occurrences reached.results reached.runs step.2);
+        served = step.3 reached.results reached.served;
       }
 
 module _ (start : Start) (may_reload : Bool) (seen : List HubEvent) (written : ℕ → List ℕ) (takes closed : ℕ → Bool) (waiting : Waiting) (policy : List Rule) (tokens : Tokens)

@@ -1,6 +1,7 @@
 -- The events that connections report.
 use Rattle.std.specs.Prelude.{◌≡◌, ℕ, Bool, true, false, List, [], ◌∷◌, Option, None, Some, Result, Ok}
 use Rattle.scim_hub.specs.Events.{HubEvent}
+use Rattle.scim_hub.specs.declared.owned_events.OwnedEvent.{OwnedEvent}
 use Rattle.scim_hub.specs.HubStates.{owned_event_of}
 use Rattle.scim_serve.specs.declared.peers.PeerEvent.{PeerEvent}
 use Rattle.scim_serve.specs.declared.peers.PeerEvent.TheVariants.{Event}
@@ -10,6 +11,11 @@ use Rattle.scim_serve.specs.declared.peers.PeersFault.{PeersFault}
 abbrev pub told_by : Result (Option PeerEvent) PeersFault → List HubEvent
 told_by (Ok (Some (Event event))) = owned_event_of event ∷ []
 told_by _ = []
+
+-- the hub's event that a call of `next_ready` reported, if any
+abbrev pub told_ready : Option OwnedEvent → List HubEvent
+told_ready (Some event) = owned_event_of event ∷ []
+told_ready None = []
 
 -- whether a call of `next` reported the end
 abbrev pub ends : Result (Option PeerEvent) PeersFault → Bool

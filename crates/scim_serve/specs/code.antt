@@ -1,4 +1,5 @@
 pub mod Closings
+pub mod Leads
 pub mod Levels
 pub mod Rests
 pub mod Served

@@ -1,5 +1,6 @@
 //! What a server does besides serving its clients.
 ghost use Rattle.std.specs.Prelude.{◌≡◌, Bool, true, false, IsTrue, List};
+ghost use Rattle.scim_shelf.specs.Shelves.{KeepsRound};
 ghost use Rattle.scim_token.specs.TokenFile.{Entry};
 ghost use Rattle.scim_token.specs.Tokens.{Knows};
 ghost use Rattle.scim_hub.specs.Events.{HubState};
@@ -66,6 +67,7 @@ pub trait Operator<S: Shelf> {
         ensures tokens { (entries : List Entry) → Knows entries (hub_tokens hub.old)
             → (next : List Entry) × Knows next (hub_tokens hub.new) }
         ensures keeps { may_reload ≡ false → KeepsHubSetting hub.old hub.new }
+        ensures round { KeepsRound S.has_round (hub_shelf hub.old) (hub_shelf hub.new) }
         ensures honest { S.is_honest (hub_shelf hub.new) → S.is_honest (hub_shelf hub.old) }
         ensures ended { has_ended self.new ≡ says_end result };
 }

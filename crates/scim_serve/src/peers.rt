@@ -1,9 +1,9 @@
 //! The connections that a server serves, and the events that they report.
 ghost use Rattle.std.specs.Prelude.{◌≡◌, ◌≤◌, ℕ, ◌==◌, Bool, true, false, IsTrue, List, [], ◌++◌, length, take, if◌then◌else◌};
 ghost use Rattle.scim_hub.specs.Events.{HubEvent};
-ghost use Rattle.scim_serve.specs.Peers.{told_by, ends};
+ghost use Rattle.scim_serve.specs.Peers.{told_by, told_ready, ends};
 
-use scim_hub::OwnedEvent;
+use scim_hub::{OwnedEvent, Pace};
 use std::alloc::Global;
 use thiserror::Error;
 
@@ -92,8 +92,8 @@ pub struct PeersFault;
 /// Connections that are served on one thread: those of clients and, beside them, those of the administrator.
 ///
 /// A connection that takes fewer bytes than it is offered isn't read until it has taken all of them. The
-/// contracts describe the connections of clients alone.
-pub trait Peers {
+/// contracts describe the connections of clients alone. As a [`Pace`] they tell how long a round may go on.
+pub trait Peers: Pace {
     ghost use Rattle.scim_serve.specs.Peers.{KeepsClients};
 
     /// Whether the contracts describe the events and the bytes taken. False for the system's sockets.
@@ -123,6 +123,16 @@ pub trait Peers {
             → takes_all self.old m ≡ true }
         ensures closed { IsTrue is_known → (m : ℕ) → is_closed self.new m ≡ is_closed self.old m }
         ensures over { IsTrue is_known → is_over self.new ≡ ends result };
+
+    /// Returns one more piece that is ready now, for the round that the last event of `next` began, without waiting.
+    /// It is a piece of a client's connection that reported no other event since then. Returns `None` if there is
+    /// no such piece, or if the round takes no more.
+    fn next_ready(&mut self, alloc: Global) -> Option<OwnedEvent>
+        ensures seen { IsTrue is_known → seen self.new ≡ seen self.old ++ told_ready result }
+        ensures written { IsTrue is_known → (m : ℕ) → written self.new m ≡ written self.old m }
+        ensures takes { IsTrue is_known → (m : ℕ) → takes_all self.new m ≡ true
+            → takes_all self.old m ≡ true }
+        ensures closed { IsTrue is_known → (m : ℕ) → is_closed self.new m ≡ is_closed self.old m };
 
     /// Offers bytes to a connection, and returns the length of the prefix that it took.
     ///

@@ -1,17 +1,22 @@
 //! The main loop of a server.
-ghost use Rattle.std.specs.Prelude.{◌≡◌, ◌≢◌, ◌<◌, ◌||◌, Bool, Some, ◌==◌, if◌then◌else◌, ◌++◌, ◌∷◌, ℕ, List, [], IsTrue, OnOk, Result, Ok, Err, Option, None, IsSome, false, true, map};
+ghost use Rattle.std.specs.Prelude.{◌≡◌, ◌≢◌, ◌<◌, ◌||◌, Bool, Some, ◌==◌, if◌then◌else◌, ◌++◌, ◌∷◌, ℕ, List, [], IsTrue, OnOk, Result, Ok, Err, Option, None, IsSome, IfSome, false, true, map, take, length, vec_len, ◌≤◌};
+ghost use Rattle.std.specs.Vec.{vec_capacity};
 ghost use Rattle.std.specs.List.{flat_map, list_any};
+ghost use Rattle.scim_policy.specs.Rules.{Rule};
+ghost use Rattle.scim_shelf.specs.Shelves.{KeepsRound, settled};
 ghost use Rattle.scim_token.specs.TokenFile.{Entry};
 ghost use Rattle.scim_token.specs.Tokens.{Knows};
 ghost use Rattle.scim_hub.specs.declared.events.HubFault.{HubFault};
 ghost use Rattle.scim_hub.specs.Events.{HubEvent, absent, shut, HubOutput, HubState, Hears, Runs, joining};
-ghost use Rattle.scim_hub.specs.HubStates.{IsHubState, output_of, done, owned_event_of};
+ghost use Rattle.scim_hub.specs.HubStates.{IsHubState, output_of, done, owned_event_of, result_of};
 ghost use Rattle.scim_serve.specs.Occurrences.{Occurrence, heard, reloaded, RunsThrough};
 ghost use Rattle.scim_serve.specs.Operators.{is_ended, says_end};
 ghost use Rattle.scim_serve.specs.Peers.{KeepsClients, told_by};
 ghost use Rattle.scim_serve.specs.declared.serving.Ending.{Ending};
 ghost use Rattle.scim_serve.specs.Serving.{AreServed, text_to, due_for, due, shuts, shut_for, is_shut, leaves, has_left};
+ghost use Rattle.scim_serve.specs.SettledStates.{IsSettledIn};
 ghost use Rattle.scim_serve.specs.code.Closings.{IsMarked, Marks, IsClosing};
+ghost use Rattle.scim_serve.specs.code.Leads.{Leads};
 ghost use Rattle.scim_serve.specs.code.Levels.{Fits, IsLevel, Keeps, Grows};
 ghost use Rattle.scim_serve.specs.code.Rests.{finished};
 ghost use Rattle.scim_serve.specs.code.Served.{IsReached, IsServed, Start};
@@ -22,7 +27,7 @@ ghost use Rattle.scim_hub.specs.HubSetting.{hub_base, hub_policy, hub_shelf, hub
 use crate::operators::{Operator, Pause, Then};
 use crate::peers::{Note, PeerEvent, Peers, PeersFault};
 use crate::pending_bytes::Waiting;
-use scim_hub::{Hub, HubFault, Output, OwnedEvent, OwnedEventKind};
+use scim_hub::{EventAnswer, Hub, HubFault, Output, OwnedEvent, OwnedEventKind};
 use scim_shelf::Shelf;
 use scim_text::NoMemory;
 use std::alloc::Global;
@@ -289,6 +294,63 @@ fn report<P: Peers>(
     }
 }
 
+/// Carries out the hub's answer to an event of a client's connection, and tells `peers` what it met.
+fn deliver<P: Peers>(
+    alloc: Global,
+    peers: &mut P,
+    waiting: &mut Waiting,
+    event: &OwnedEvent,
+    answer: &EventAnswer,
+)
+    ensures seen { IsTrue P.is_known → P.seen peers.new ≡ P.seen peers.old }
+    ensures served { IsTrue P.is_known → (policy : List Rule) (base : List ℕ) (entries : List Entry)
+        (first state next : HubState) (seen : List HubEvent) (due : ℕ → List ℕ) (shut : ℕ → Bool)
+        → Hears policy base entries (owned_event_of event.now) state (result_of answer.now) next
+        → IsServed first state seen (P.written peers.old) (P.takes_all peers.old)
+        (P.is_closed peers.old) waiting.old due shut
+        → IsServed first next (seen ++ owned_event_of event.now ∷ []) (P.written peers.new)
+        (P.takes_all peers.new) (P.is_closed peers.new) waiting.new
+        (λ m. due m ++ due_for m (result_of answer.now))
+        (λ m. shut m || shut_for m (result_of answer.now)) }
+{
+    prepare(alloc, peers, waiting, event);
+    settle(peers, waiting, event.connection, &answer.result);
+    report(peers, event.connection, answer.refused, &answer.result);
+}
+
+/// Calls `deliver` for each of the events with its answer, in order.
+fn deliver_all<P: Peers>(
+    alloc: Global,
+    peers: &mut P,
+    waiting: &mut Waiting,
+    events: &[OwnedEvent],
+    answers: &[EventAnswer],
+)
+    ensures seen { IsTrue P.is_known → P.seen peers.new ≡ P.seen peers.old }
+    ensures served { IsTrue P.is_known → (policy : List Rule) (base : List ℕ) (entries : List Entry)
+        (first state next : HubState) (seen : List HubEvent)
+        (results : List (Result (List HubOutput) HubFault))
+        → Runs policy base entries state
+        (map owned_event_of (take (length answers.now) events.now))
+        (map result_of answers.now) next
+        → IsServed first state seen (P.written peers.old) (P.takes_all peers.old)
+        (P.is_closed peers.old) waiting.old (λ m. due m results) (λ m. is_shut m results)
+        → IsServed first next
+        (seen ++ map owned_event_of (take (length answers.now) events.now))
+        (P.written peers.new) (P.takes_all peers.new) (P.is_closed peers.new) waiting.new
+        (λ m. due m (results ++ map result_of answers.now))
+        (λ m. is_shut m (results ++ map result_of answers.now)) }
+{
+    let Some((event, events)) = events.split_first() else {
+        return;
+    };
+    let Some((answer, answers)) = answers.split_first() else {
+        return;
+    };
+    deliver(alloc, peers, waiting, event, answer);
+    deliver_all(alloc, peers, waiting, events, answers);
+}
+
 /// Passes an event to the hub, and carries out the hub's answer.
 fn hear<P: Peers, S: Shelf>(
     alloc: Global,
@@ -299,31 +361,144 @@ fn hear<P: Peers, S: Shelf>(
 )
     ensures keeps { KeepsHubSetting hub.old hub.new }
     ensures seen { IsTrue P.is_known → P.seen peers.new ≡ P.seen peers.old }
-    ensures heard { IsTrue P.is_known → (entries : List Entry) (state : HubState)
-        → Knows entries (hub_tokens hub.old) → IsHubState S.stands hub.old state
-        → S.is_honest (hub_shelf hub.new)
-        → (result : Result (List HubOutput) HubFault) × (next : HubState)
-        × IsHubState S.stands hub.new next
-        × Hears (hub_policy hub.old) (hub_base hub.old) entries
-        (owned_event_of event.now) state result next
-        × ((first : HubState) (seen : List HubEvent) (due : ℕ → List ℕ) (shut : ℕ → Bool)
-        → IsServed first state seen (P.written peers.old) (P.takes_all peers.old)
-        (P.is_closed peers.old) waiting.old due shut
-        → IsServed first next (seen ++ owned_event_of event.now ∷ []) (P.written peers.new)
-        (P.takes_all peers.new) (P.is_closed peers.new) waiting.new
-        (λ m. due m ++ due_for m result) (λ m. shut m || shut_for m result)) }
+    ensures leads { IsTrue P.is_known → S.is_honest (hub_shelf hub.new)
+        → Leads P.written P.takes_all P.is_closed S.stands S.has_round (owned_event_of event.now ∷ [])
+        peers.old peers.new waiting.old waiting.new hub.old hub.new }
+    ensures round { KeepsRound S.has_round (hub_shelf hub.old) (hub_shelf hub.new) }
     ensures honest { S.is_honest (hub_shelf hub.new) → S.is_honest (hub_shelf hub.old) }
 {
     let refused = hub.refused_tokens();
-    prepare(alloc, peers, waiting, event);
-    let answer = hub.event(alloc, &event.event());
-    settle(peers, waiting, event.connection, &answer);
-    report(
-        peers,
-        event.connection,
-        hub.refused_tokens() - refused,
-        &answer,
-    );
+    let result = hub.event(alloc, &event.event());
+    let answer = EventAnswer {
+        result,
+        refused: hub.refused_tokens() - refused,
+    };
+    deliver(alloc, peers, waiting, event, &answer);
+}
+
+/// Has the hub handle a round of these events, and carries out its answers. Returns how many of the events
+/// the round took, from the first on.
+///
+/// If the hub can't answer a round because memory runs out, the first of the events is a round by itself.
+fn hear_round<P: Peers, S: Shelf>(
+    alloc: Global,
+    peers: &mut P,
+    hub: &mut Hub<S>,
+    waiting: &mut Waiting,
+    events: &[OwnedEvent],
+) -> usize
+    ensures count { result ≤ length events.now }
+    ensures some { 0 < length events.now → 0 < result }
+    ensures keeps { KeepsHubSetting hub.old hub.new }
+    ensures seen { IsTrue P.is_known → P.seen peers.new ≡ P.seen peers.old }
+    ensures leads { IsTrue P.is_known → S.is_honest (hub_shelf hub.new)
+        → Leads P.written P.takes_all P.is_closed S.stands S.has_round
+        (map owned_event_of (take result events.now))
+        peers.old peers.new waiting.old waiting.new hub.old hub.new }
+    ensures honest { S.is_honest (hub_shelf hub.new) → S.is_honest (hub_shelf hub.old) }
+{
+    match hub.round(alloc, events, &*peers) {
+        Ok(answers) => {
+            deliver_all(alloc, peers, waiting, events, answers.as_slice());
+            answers.len().min(events.len())
+        }
+        Err(NoMemory) => match events {
+            [event, ..] => {
+                hear(alloc, peers, hub, waiting, event);
+                1
+            }
+            [] => 0,
+        },
+    }
+}
+
+/// Has the hub handle the events, in order, in as many rounds as they take.
+fn hear_all<P: Peers, S: Shelf>(
+    alloc: Global,
+    peers: &mut P,
+    hub: &mut Hub<S>,
+    waiting: &mut Waiting,
+    events: &[OwnedEvent],
+)
+    ensures keeps { KeepsHubSetting hub.old hub.new }
+    ensures seen { IsTrue P.is_known → P.seen peers.new ≡ P.seen peers.old }
+    ensures leads { IsTrue P.is_known → S.is_honest (hub_shelf hub.new)
+        → Leads P.written P.takes_all P.is_closed S.stands S.has_round (map owned_event_of events.now)
+        peers.old peers.new waiting.old waiting.new hub.old hub.new }
+    ensures honest { S.is_honest (hub_shelf hub.new) → S.is_honest (hub_shelf hub.old) }
+{
+    if events.is_empty() {
+        return;
+    }
+    let count = hear_round(alloc, peers, hub, waiting, events);
+    hear_all(alloc, peers, hub, waiting, &events[count..]);
+}
+
+/// The number of events that are gathered before the hub handles them, at most.
+const MOST_GATHERED: usize = 64;
+
+/// Returns an empty list with room for this event and those that are gathered behind it; `None` if none are
+/// gathered behind such an event, or if memory runs out.
+fn room_behind(alloc: Global, event: &OwnedEvent) -> Option<Vec<OwnedEvent>>
+    ensures empty { IfSome result (λ events. events.items ≡ []) }
+    ensures room { IfSome result (λ events. vec_len events < vec_capacity events) }
+{
+    match &event.kind {
+        OwnedEventKind::Piece(_) => Vec::with_capacity(alloc, MOST_GATHERED).ok(),
+        OwnedEventKind::Joined | OwnedEventKind::Left => None,
+    }
+}
+
+/// Adds the pieces that are ready now to the events, until there are 64 events or their list is full.
+fn gather<P: Peers>(alloc: Global, peers: &mut P, events: &mut Vec<OwnedEvent>)
+    ensures gathered { IsTrue P.is_known → (ready : List OwnedEvent)
+        × (events.new.items ≡ events.old.items ++ ready)
+        × (P.seen peers.new ≡ P.seen peers.old ++ map owned_event_of ready) }
+    ensures written { IsTrue P.is_known → (m : ℕ) → P.written peers.new m ≡ P.written peers.old m }
+    ensures takes { IsTrue P.is_known → (m : ℕ) → P.takes_all peers.new m ≡ true
+        → P.takes_all peers.old m ≡ true }
+    ensures closed { IsTrue P.is_known → (m : ℕ)
+        → P.is_closed peers.new m ≡ P.is_closed peers.old m }
+{
+    let most = events.capacity().min(MOST_GATHERED);
+    for _ in events.len()..most {
+        let Some(event) = peers.next_ready(alloc) else {
+            return;
+        };
+        events.push(event).unwrap();
+    }
+}
+
+/// Has the hub handle an event of a client's connection, which `peers` reported last. The pieces of other
+/// connections that are ready now are handled after a piece, in the same rounds.
+///
+/// If memory runs out for the list of these events, the event is handled alone.
+fn hear_ready<P: Peers, S: Shelf>(
+    alloc: Global,
+    peers: &mut P,
+    hub: &mut Hub<S>,
+    waiting: &mut Waiting,
+    event: OwnedEvent,
+)
+    ensures keeps { KeepsHubSetting hub.old hub.new }
+    ensures reached { IsTrue P.is_known → S.is_honest (hub_shelf hub.new) → (start : Start) (may_reload : Bool)
+        (seen : List HubEvent) → start.base ≡ hub_base hub.old
+        → P.seen peers.old ≡ seen ++ owned_event_of event ∷ []
+        → IsReached start may_reload seen (P.written peers.old) (P.takes_all peers.old)
+        (P.is_closed peers.old) waiting.old (hub_policy hub.old) (hub_tokens hub.old)
+        (IsSettledIn S.stands S.has_round hub.old)
+        → IsReached start may_reload (P.seen peers.new) (P.written peers.new)
+        (P.takes_all peers.new) (P.is_closed peers.new) waiting.new (hub_policy hub.new)
+        (hub_tokens hub.new) (IsSettledIn S.stands S.has_round hub.new) }
+    ensures honest { S.is_honest (hub_shelf hub.new) → S.is_honest (hub_shelf hub.old) }
+{
+    let Some(mut events) = room_behind(alloc, &event) else {
+        hear(alloc, peers, hub, waiting, &event);
+        return;
+    };
+    events.push(event).unwrap();
+    gather(alloc, peers, &mut events);
+    hear_all(alloc, peers, hub, waiting, events.as_slice());
 }
 
 /// Handles what the connections report: a client's event by the hub, and what interrupts the serving of
@@ -338,22 +513,22 @@ fn attend<P: Peers, S: Shelf, O: Operator<S>>(
 ) -> Then
     ensures base { hub_base hub.new ≡ hub_base hub.old }
     ensures keeps { O.may_reload ≡ false → KeepsHubSetting hub.old hub.new }
-    ensures seen { IsTrue P.is_known → P.seen peers.new ≡ P.seen peers.old }
-    ensures reached { IsTrue P.is_known → S.is_honest (hub_shelf hub.new) → (start : Start)
-        (seen : List HubEvent) → start.base ≡ hub_base hub.old
+    ensures reached { IsTrue P.is_known → S.is_honest (hub_shelf hub.new) → (start : Start) (seen : List HubEvent)
+        → start.base ≡ hub_base hub.old
+        → P.seen peers.old ≡ seen ++ told_by (Ok (Some peer_event))
         → IsReached start O.may_reload seen (P.written peers.old) (P.takes_all peers.old)
         (P.is_closed peers.old) waiting.old (hub_policy hub.old) (hub_tokens hub.old)
-        (IsHubState S.stands hub.old)
-        → IsReached start O.may_reload (seen ++ told_by (Ok (Some peer_event)))
-        (P.written peers.new) (P.takes_all peers.new) (P.is_closed peers.new) waiting.new
-        (hub_policy hub.new) (hub_tokens hub.new) (IsHubState S.stands hub.new) }
+        (IsSettledIn S.stands S.has_round hub.old)
+        → IsReached start O.may_reload (P.seen peers.new) (P.written peers.new)
+        (P.takes_all peers.new) (P.is_closed peers.new) waiting.new (hub_policy hub.new)
+        (hub_tokens hub.new) (IsSettledIn S.stands S.has_round hub.new) }
     ensures ended { O.has_ended operator.old ≡ false
         → O.has_ended operator.new ≡ says_end result }
     ensures honest { S.is_honest (hub_shelf hub.new) → S.is_honest (hub_shelf hub.old) }
 {
     match peer_event {
         PeerEvent::Event(event) => {
-            hear(alloc, peers, hub, waiting, &event);
+            hear_ready(alloc, peers, hub, waiting, event);
             Then::GoOn
         }
         PeerEvent::Ready(connection) => {
@@ -381,6 +556,9 @@ pub enum Ending {
 /// that has left isn't written to any more. If a connection's number isn't greater than all earlier numbers,
 /// or if memory runs out for a connection, only that connection is closed, and the others are still served.
 ///
+/// The pieces of several connections that are ready at the same time are handled in rounds, each of which puts
+/// its changes on the device of the hub's shelf at once. A piece that is alone is a round by itself.
+///
 /// Between two events of clients the operator handles the administrator's connections, and may replace the
 /// hub's policy and tokens.
 ///
@@ -396,12 +574,12 @@ pub fn serve<P: Peers, S: Shelf, O: Operator<S>>(
     ensures served { IsTrue P.is_known → (entries : List Entry) (state : HubState)
         → P.seen peers.old ≡ [] → ((m : ℕ) → P.written peers.old m ≡ [])
         → Knows entries (hub_tokens hub.old) → IsHubState S.stands hub.old state
-        → S.is_honest (hub_shelf hub.new)
+        → S.has_round (hub_shelf hub.old) settled → S.is_honest (hub_shelf hub.new)
         → (occurrences : List Occurrence) × (results : List (Result (List HubOutput) HubFault))
         × (entries_last : List Entry) × (next : HubState)
         × (heard occurrences ≡ P.seen peers.new)
         × (O.may_reload ≡ false → reloaded occurrences ≡ [])
-        × Knows entries_last (hub_tokens hub.new) × IsHubState S.stands hub.new next
+        × Knows entries_last (hub_tokens hub.new) × IsSettledIn S.stands S.has_round hub.new next
         × RunsThrough (hub_base hub.old) (hub_policy hub.old) entries state
         occurrences results (hub_policy hub.new) entries_last next
         × AreServed state next (P.seen peers.new) results (P.written peers.new)

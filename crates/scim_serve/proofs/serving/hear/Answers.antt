@@ -1,43 +1,30 @@
-use Rattle.std.proofs.Common.{◌∙◌, sym, subst, [], ◌∷◌, ◌++◌}
-use Rattle.std.specs.Prelude.{◌||◌}
+use Rattle.std.proofs.Common.{sym, subst, ℕ, List}
+use Rattle.scim_shelf.specs.Shelves.{settled}
 use Rattle.scim_hub.specs.Events.{HubEvent, Hears}
 use Rattle.scim_hub.specs.HubStates.{done, owned_event_of}
-use Rattle.scim_serve.specs.Serving.{due_for, shut_for}
-use Rattle.scim_serve.proofs.EventLemmas.{hears_only}
-use Rattle.scim_serve.proofs.ClosingLemmas.{closing_on}
-use Rattle.scim_serve.proofs.LevelLemmas.{level_on}
-use Rattle.scim_serve.proofs.ServedLemmas.{served_same}
-use Rattle.scim_serve.proofs.WholeLemmas.{whole_on}
+use Rattle.scim_serve.specs.SettledStates.{IsSettledIn}
+use Rattle.scim_serve.proofs.ReachedLemmas.{reached_event}
 use Rattle.scim_serve.proofs.serving.hear.Goals as goal
 
-pub returns-clause-heard : goal.returns-clause-heard
-returns-clause-heard g c = λ known entries state knows is honest.
-    let policy = c.args.hub.now.service.policy in
-    let base = c.args.hub.now.service.base in
-    let result = done c.event-answer.result in
-    let written = g.P.Peers.written in
-    let takes = g.P.Peers.takes_all in
-    let closed = g.P.Peers.is_closed in
-    let step = c.event-answer.ensures.heard entries state knows is honest in
-    let hears = subst (λ (s : HubEvent). Hears policy base entries s state result step.0) c.event.ensures step.2 in
-    let only = hears_only policy base entries _ state result step.0 hears in (
-      result,
-      step.0,
-      step.1,
-      hears,
-      λ first seen due shut served. let noted = c.report.ensures known in
-          served_same first step.0 (seen ++ owned_event_of c.args.event.now ∷ []) (written c.settle.new.peers) (written c.report.new.peers) (takes c.settle.new.peers) (takes c.report.new.peers)
-          (closed c.settle.new.peers) (closed c.report.new.peers) c.settle.new.waiting (λ m. due m ++ due_for m result) (λ m. shut m || shut_for m result)
-          noted.written_same (λ m all. sym (noted.takes_same m) ∙ all) noted.closed_same (record {
-            level = level_on (written c.prepare.new.peers) (written c.settle.new.peers) c.prepare.new.waiting c.settle.new.waiting due c.args.event.now.connection result
-                (c.settle.ensures.settled known) c.settle.ensures.next c.prepare.ensures.noted only (c.prepare.ensures.level known due served.level);
-            closing = closing_on c.prepare.new.waiting c.settle.new.waiting shut c.args.event.now.connection result
-                c.settle.ensures.marks c.settle.ensures.unfinished c.settle.ensures.next c.prepare.ensures.noted only (c.prepare.ensures.closing shut served.closing);
-            whole = whole_on policy base entries first state step.0 seen (owned_event_of c.args.event.now) result
-                (written c.args.peers.now) (written c.prepare.new.peers) (written c.settle.new.peers) (takes c.args.peers.now) (takes c.prepare.new.peers) (takes c.settle.new.peers)
-                (closed c.args.peers.now) (closed c.prepare.new.peers) (closed c.settle.new.peers) c.args.waiting.now c.prepare.new.waiting c.settle.new.waiting due shut
-                (c.prepare.ensures.taken known) (c.prepare.ensures.stays known) (λ m left. (c.prepare.ensures.gone m left, c.prepare.ensures.unclosed known m left))
-                (c.prepare.ensures.entered known) (c.prepare.ensures.written known) (c.settle.ensures.taken known) (c.settle.ensures.stays known) (c.settle.ensures.settled known) (c.settle.ensures.lost known) hears
-                served.level served.closing served.whole;
-          }),
-    )
+pub returns-clause-leads : goal.returns-clause-leads
+returns-clause-leads g c = λ known honest. record {
+  reached = λ start may seen based reached.
+      let written = g.P.Peers.written in
+      let takes = g.P.Peers.takes_all in
+      let closed = g.P.Peers.is_closed in
+      let hub = c.args.hub.now in
+      let hub_then = c.event-result.new.self in
+      let policy = hub.service.policy in
+      let event = owned_event_of c.args.event.now in
+      let result = done c.event-result.result in
+      let kept = c.event-result.ensures.keeps in
+      reached_event start may seen (written c.args.peers.now) (written c.deliver.new.peers) (takes c.args.peers.now) (takes c.deliver.new.peers)
+      (closed c.args.peers.now) (closed c.deliver.new.peers) c.args.waiting.now c.deliver.new.waiting policy hub_then.service.policy hub.tokens hub_then.tokens
+      (IsSettledIn g.S.Shelf.stands g.S.Shelf.has_round hub) (IsSettledIn g.S.Shelf.stands g.S.Shelf.has_round hub_then) event kept.policy kept.tokens
+      (λ entries state knows is.
+      let step = c.event-result.ensures.heard entries state knows is.0 honest in
+      let hears = subst (λ (b : List ℕ). Hears policy b entries event state result step.0) (sym based)
+      (subst (λ (s : HubEvent). Hears policy hub.service.base entries s state result step.0) c.event.ensures step.2) in
+      (result, step.0, (step.1, c.event-result.ensures.round settled is.1), hears, λ due shut served. c.deliver.ensures.served known policy start.base entries start.state state step.0 seen due shut hears served))
+      reached;
+}
