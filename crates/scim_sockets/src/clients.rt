@@ -61,8 +61,8 @@ impl Client {
 ///
 /// A client that used less than the client that was served last has used as much as that one: nobody saves up
 /// time. A client is never more than a tenth of a second ahead. What a client with the least share asks is
-/// answered first. So a client with many connections or with dear requests delays another one by little more than
-/// the request in hand.
+/// answered first. So a client with many connections or with dear requests delays another one by little more
+/// than the round in hand.
 #[derive(Drop)]
 pub(crate) struct Clients {
     places: Vec<Client>,

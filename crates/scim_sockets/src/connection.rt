@@ -14,6 +14,10 @@ use std::time::Duration;
 /// The interim reply 100 (Continue), after which the message in hand goes on.
 const CONTINUE: &[u8] = b"HTTP/1.1 100 Continue\r\n\r\n";
 
+/// The most bytes of a message that were handed on before another piece of it may come in a round. A long
+/// message may be a dear one, for which nobody else is to wait who would come before it otherwise.
+const LONGEST_IN_ROUND: u32 = 8192;
+
 /// How many of the bytes that were last offered to a connection it has taken.
 #[derive(Clone, Copy, PartialEq, Eq)]
 enum Taking {
@@ -60,8 +64,8 @@ pub(crate) enum Late {
 /// `WouldBlock`.
 ///
 /// A read may return the bytes of many requests. They are held, and handed on piece by piece, one each turn. A
-/// piece completes the head of at most one request. Nothing is handed on or read before the connection has taken
-/// all bytes that it was offered.
+/// piece completes the head of at most one request. Nothing is handed on or read before the connection has
+/// taken all bytes that it was offered.
 #[derive(Drop)]
 pub(crate) struct Connection {
     // `None` after the connection has ended.
@@ -148,8 +152,8 @@ impl Connection {
     /// message and its reply. The buffer of a message grows by doubling, so it may be twice as long as what it
     /// holds; that of a reply is as long as the reply.
     ///
-    /// Not counted are the bytes of the last read, and those of a message that began in the piece that ended the
-    /// one before it.
+    /// Not counted are the bytes of the last read, and those of a message that began in the piece that ended
+    /// the one before it.
     pub(crate) fn weight(&self) -> u64
         ensures weight { result ≡ weight_of self.now }
         ensures light { weight_of self.now ≤ 2 ^ 34 }
@@ -209,6 +213,18 @@ impl Connection {
         if self.stream.is_some() && !self.is_shut {
             self.is_asked = true;
         }
+    }
+
+    /// Whether the next turn may hand on a piece for a round, or read: the connection hasn't ended, has taken
+    /// all bytes that it was offered, wasn't asked to report its turn, and its message in hand isn't long.
+    pub(crate) fn may_give_piece(&self) -> bool
+        ensures behind { IsTrue result → IsBehind self.now → ⊥ }
+        ensures asked { IsTrue result → IsAsked self.now → ⊥ }
+    {
+        self.stream.is_some()
+            && self.taking == Taking::All
+            && !self.is_asked
+            && self.handed <= LONGEST_IN_ROUND
     }
 
     /// Returns whether the connection must be queued: whether it has work to do and isn't queued. If so,

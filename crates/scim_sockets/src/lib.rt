@@ -15,6 +15,7 @@ mod poll_tokens;
 mod port;
 mod ports;
 mod refused_tokens;
+mod rounds;
 mod server_time;
 mod sockets;
 mod stamps;

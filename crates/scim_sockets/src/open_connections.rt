@@ -137,6 +137,15 @@ impl Open {
         }
     }
 
+    /// Whether the connection with the number may hand on a piece, as [`Connection::may_give_piece`] says;
+    /// false if no connection has the number.
+    pub(crate) fn may_give_piece(&self, number: u64) -> bool {
+        match self.by_number.get(&number) {
+            Some(connection) => connection.may_give_piece(),
+            None => false,
+        }
+    }
+
     /// Calls [`Connection::begins_to_wait`]; returns false if no connection has the number.
     pub(crate) fn begins_to_wait(&mut self, number: u64) -> bool
         ensures changes { ChangesOne number self.old.by_number self.new.by_number }

@@ -1,5 +1,6 @@
 //! The events of connections, as the loop of a server hears them.
 ghost use Rattle.std.specs.Prelude.{◌≡◌, IfSome};
+ghost use Rattle.scim_hub.specs.declared.owned_events.OwnedEventKind.{OwnedEventKind};
 ghost use Rattle.scim_serve.specs.declared.peers.AdminEventKind.{AdminEventKind};
 ghost use Rattle.scim_sockets.specs.PeerEvents.{Tells};
 
@@ -59,6 +60,34 @@ pub(crate) fn left(role: Role, connection: u64) -> PeerEvent
     }
 }
 
+/// Whether an event is a piece of a client's connection.
+pub(crate) fn is_client_piece(peer_event: &Option<PeerEvent>) -> bool {
+    match peer_event {
+        Some(PeerEvent::Event(event)) => matches!(event.kind, OwnedEventKind::Piece(_)),
+        _ => false,
+    }
+}
+
+/// Returns the event that the next piece of the stream of a client's connection has arrived, with its stamp;
+/// `None` if the clock or the random source fails.
+pub(crate) fn client_piece<R: Clock + RandomSource>(
+    rt: &R,
+    connection: u64,
+    bytes: Vec<u8>,
+) -> Option<OwnedEvent>
+    ensures { IfSome result (λ event. (event.connection ≡ connection)
+        × (event.kind ≡ OwnedEventKind.Piece bytes)) }
+{
+    match stamp_now(rt) {
+        Ok(stamp) => Some(OwnedEvent {
+            connection,
+            stamp,
+            kind: OwnedEventKind::Piece(bytes),
+        }),
+        Err(_) => None,
+    }
+}
+
 /// Returns the event that the next piece of a connection's stream has arrived. That of a client is stamped:
 /// returns `None` if the clock or the random source fails.
 pub(crate) fn piece<R: Clock + RandomSource>(
@@ -70,9 +99,9 @@ pub(crate) fn piece<R: Clock + RandomSource>(
     ensures { IfSome result (Tells role connection (AdminEventKind.Piece bytes)) }
 {
     match role {
-        Role::Client => match stamp_now(rt) {
-            Ok(stamp) => Some(of_client(connection, stamp, OwnedEventKind::Piece(bytes))),
-            Err(_) => None,
+        Role::Client => match client_piece(rt, connection, bytes) {
+            Some(event) => Some(PeerEvent::Event(event)),
+            None => None,
         },
         Role::Admin => Some(of_admin(connection, AdminEventKind::Piece(bytes))),
     }

@@ -84,6 +84,11 @@ impl Ports {
         if is_admins { Role::Admin } else { Role::Client }
     }
 
+    /// Whether the administrator's turn is next.
+    pub(crate) fn is_admins_turn(&self) -> bool {
+        self.next_role() == Role::Admin
+    }
+
     /// Removes the next entry of the queues, as [`crate::turn_queue::Turns::pop`] does, and returns it with the
     /// role of its port.
     pub(crate) fn pop(&mut self) -> Option<(Role, Place)> {
@@ -129,6 +134,16 @@ impl Ports {
         }
     }
 
+    /// Processes the next entry of the clients' queue for a round. Returns the number of its connection and the
+    /// length of the piece that it hands on, which is at the start of the buffer; `None` if it hands on none.
+    pub(crate) fn next_piece(&mut self, now: Duration, buffer: &mut [u8]) -> Option<(u64, usize)>
+        ensures { IfSome result (λ piece. piece.1 ≤ length buffer.new) }
+    {
+        let number = self.clients.turns.pop_for_piece()?;
+        let count = self.clients.turns.turn_for_piece(number, now, buffer)?;
+        Some((number, count))
+    }
+
     /// Offers bytes to a connection, and returns the length of the prefix that it took. The next turn of a
     /// connection of the administrator is reported as ready.
     pub(crate) fn write(&mut self, role: Role, number: u64, now: Duration, bytes: &[u8]) -> usize
@@ -160,23 +175,50 @@ impl Ports {
         }
     }
 
-    /// Ends the turn of the connection that was served last, which took this time.
-    pub(crate) fn settle(&mut self, cost: Duration) {
-        if self.admins.turns.is_serving() {
-            self.account.charge(self.clients.turns.share(), cost);
-        }
-        self.clients.turns.settle(cost);
-        self.admins.turns.settle(cost);
+    /// Drops the socket of a client's connection whose turn was begun last. Its next turn, after the round,
+    /// reports that.
+    pub(crate) fn end_in_round(&mut self, number: u64) {
+        self.clients.turns.end(number);
+        self.clients.turns.pass_for_now();
     }
 
-    /// Ends the connection for which the server holds most, if it holds more than `most` bytes for all together.
-    pub(crate) fn relieve(&mut self, most: u64, counts: &mut Counts) {
+    /// Ends the turns of the connections that were served since the last call, which took this time together.
+    /// Each pays an equal part of it.
+    pub(crate) fn settle(&mut self, cost: Duration) {
+        let turns = self
+            .clients
+            .turns
+            .serving()
+            .saturating_add(self.admins.turns.serving());
+        let part = cost / u32::try_from(turns).unwrap_or(u32::MAX).max(1);
+        if self.admins.turns.serving() > 0 {
+            self.account.charge(self.clients.turns.share(), part);
+        }
+        self.clients.turns.settle(cost, part);
+        self.admins.turns.settle(cost, part);
+    }
+
+    /// Ends the turn of the connection of this role that was begun last and cost nothing.
+    pub(crate) fn pass(&mut self, role: Role) {
+        match role {
+            Role::Client => self.clients.turns.pass(),
+            Role::Admin => self.admins.turns.pass(),
+        }
+    }
+
+    /// Whether the server holds more than `most` bytes for all connections together.
+    pub(crate) fn holds_over(&self, most: u64) -> bool {
         let clients = self.clients.turns.weight();
-        let admins = self.admins.turns.weight();
-        if clients.saturating_add(admins) <= most {
+        clients.saturating_add(self.admins.turns.weight()) > most
+    }
+
+    /// Ends the connection for which the server holds most, if it holds more than `most` bytes for all
+    /// together.
+    pub(crate) fn relieve(&mut self, most: u64, counts: &mut Counts) {
+        if !self.holds_over(most) {
             return;
         }
-        if admins > clients {
+        if self.admins.turns.weight() > self.clients.turns.weight() {
             self.admins.turns.end_heaviest(counts);
         } else {
             self.clients.turns.end_heaviest(counts);

@@ -10,6 +10,8 @@ pub(crate) struct ServerTime {
     clock: Instant,
     // The processor's time that was used until the last turn ended.
     used: Duration,
+    // The processor's time that the last turn took.
+    worked: Duration,
     // The time that counts for the limits.
     now: Duration,
 }
@@ -23,6 +25,7 @@ impl ServerTime {
         Ok(ServerTime {
             clock,
             used,
+            worked: Duration::from_secs(0),
             now: Duration::from_secs(0),
         })
     }
@@ -35,6 +38,11 @@ impl ServerTime {
     /// Returns the last reading of the clock.
     pub(crate) fn clock(&self) -> Instant {
         self.clock
+    }
+
+    /// Returns the processor's time that the last turn took.
+    pub(crate) fn worked(&self) -> Duration {
+        self.worked
     }
 
     /// Reads the clock, and adds the time that has passed to the time that counts, but at most one second.
@@ -51,9 +59,9 @@ impl ServerTime {
         Ok(passed)
     }
 
-    /// Returns what a turn costs during which this time passed: the processor's time that was used since the last
-    /// turn ended, and at most five milliseconds more, for waits for the disk. In the rest of the time other
-    /// programs may have had the processor.
+    /// Returns what a turn costs during which this time passed: the processor's time that was used since the
+    /// last turn ended, and at most five milliseconds more, for waits for the disk. In the rest of the time
+    /// other programs may have had the processor.
     pub(crate) fn cost_of<R: CpuClock>(
         &mut self,
         rt: &R,
@@ -62,8 +70,11 @@ impl ServerTime {
         let Ok(used) = rt.thread_cpu_time() else {
             return Err(PeersFault);
         };
-        let worked = used.saturating_sub(self.used);
+        self.worked = used.saturating_sub(self.used);
         self.used = used;
-        Ok(passed.min(worked.saturating_add(Duration::from_millis(LONGEST_PAUSE))))
+        Ok(passed.min(
+            self.worked
+                .saturating_add(Duration::from_millis(LONGEST_PAUSE)),
+        ))
     }
 }

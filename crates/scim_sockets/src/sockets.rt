@@ -13,9 +13,11 @@ use crate::operator_log::OperatorLog;
 use crate::peer_events;
 use crate::poll_tokens::{Place, Role};
 use crate::ports::{MOST_ADMINS, Ports};
+use crate::rounds::Round;
 use crate::server_time::ServerTime;
 use crate::time_limits::{LAST_READS, LAST_REPLIES, LAST_WAIT, LONG_TURN, Limits, WAIT, WATCH};
 use mio::{Events, Poll};
+use scim_hub::{OwnedEvent, Pace};
 use scim_serve::{Figures, Note, PeerEvent, Peers, PeersFault};
 use scim_text::Failed;
 use std::alloc::{AllocError, Global};
@@ -29,6 +31,11 @@ const PIECE: usize = 4096;
 
 /// The maximum number of the system's reports per poll: one for each connection, and one for each listener.
 const REPORTS: usize = MOST_OPEN + MOST_ADMINS + 2;
+
+/// The maximum number of queue entries that are looked at for one more piece of a round. A connection has at
+/// most three entries in turn meanwhile: it is read, moved on because its client's share has grown, and hands
+/// on a piece.
+const MOST_LOOKS: usize = 4 * REPORTS;
 
 /// The error that a port can't be bound: another program uses it, or the system refuses it.
 #[derive(Clone, Copy, Debug, PartialEq, Eq, Error)]
@@ -60,27 +67,32 @@ impl Buffers {
     }
 }
 
-/// The system's sockets as connections, many of which are served on one thread: those of clients, and those of the
-/// administrator, which join at a port of their own.
+/// The system's sockets as connections, many of which are served on one thread: those of clients, and those of
+/// the administrator, which join at a port of their own.
 ///
 /// Each piece that [`Peers::next`] reports completes the head of at most one request, and comes after the
 /// connection has taken all replies to the pieces before it. Then it is the turn of the other connections.
+///
+/// A round is a piece of a client that [`Peers::next`] returned, and the pieces of other connections of clients
+/// that [`Peers::next_ready`] adds to it; or any other event alone. The pieces are taken in turn, for at most
+/// 20 milliseconds, and at most 64. The time that a round takes is divided among its connections. All else,
+/// such as what the administrator's connections have to report, is kept for [`Peers::next`].
 ///
 /// A connection is closed if it is late, as [`Limits`] says. Time counts while the system is polled: after a
 /// pause of the process or of the machine, and after a request that took long, at most one second counts, and a
 /// connection is late only if a poll since then reported nothing for it. A connection that [`Peers::close`]
 /// closes leaves once the client has closed its side too, or two seconds later.
 ///
-/// At most 1,024 connections of clients and 16 of the administrator are open at once. If another one waits then,
-/// the connection of the same port that has been idle longest gives way; if none is idle, it waits until one has
-/// left.
+/// At most 1,024 connections of clients and 16 of the administrator are open at once. If another one waits
+/// then, the connection of the same port that has been idle longest gives way; if none is idle, it waits until
+/// one has left.
 ///
 /// After each call of [`Peers::write_to_admin`] the connection's next turn is reported as ready, in the
 /// administrator's share of the server's time; until then the connection isn't read.
 ///
-/// After [`Peers::stop`] no connection is accepted. A connection that is at rest is shut after a poll that reported
-/// nothing for it, or five seconds later. The others are shut when they are at rest: when their requests are
-/// answered and the replies taken. After 29 seconds all that are left are ended.
+/// After [`Peers::stop`] no connection is accepted. A connection that is at rest is shut after a poll that
+/// reported nothing for it, or five seconds later. The others are shut when they are at rest: when their
+/// requests are answered and the replies taken. After 29 seconds all that are left are ended.
 #[derive(Drop)]
 pub struct Sockets<'r, R: Clock + CpuClock + RandomSource + Log> {
     rt: &'r R,
@@ -90,7 +102,8 @@ pub struct Sockets<'r, R: Clock + CpuClock + RandomSource + Log> {
     port: u16,
     admin_port: Option<u16>,
     // The number of queue entries to process until the next poll.
-    round: usize,
+    until_poll: usize,
+    round: Round,
     limits: Limits,
     log: OperatorLog,
     time: ServerTime,
@@ -103,12 +116,12 @@ pub struct Sockets<'r, R: Clock + CpuClock + RandomSource + Log> {
 }
 
 impl<'r, R: Net + Clock + CpuClock + RandomSource + Log> Sockets<'r, R> {
-    /// Listens on a port of the loopback address; on a free port if `port` is 0. With `admin_port`, also listens
-    /// on that port, or a free one, for the administrator.
+    /// Listens on a port of the loopback address; on a free port if `port` is 0. With `admin_port`, also
+    /// listens on that port, or a free one, for the administrator.
     ///
     /// With `most`, at most that many connections of clients are accepted, and [`Peers::next`] returns `None`
-    /// after the last has left. Fails with [`CannotListen`] if a port can't be bound, or if the system's poll or a
-    /// clock fails. After any error no port is bound.
+    /// after the last has left. Fails with [`CannotListen`] if a port can't be bound, or if the system's poll
+    /// or a clock fails. After any error no port is bound.
     pub fn listen(
         rt: &'r R,
         alloc: Global,
@@ -138,7 +151,8 @@ impl<'r, R: Net + Clock + CpuClock + RandomSource + Log> Sockets<'r, R> {
             ports,
             port,
             admin_port,
-            round: 0,
+            until_poll: 0,
+            round: Round::new(),
             limits: Limits::usual(),
             log: OperatorLog::new(alloc),
             time,
@@ -218,11 +232,21 @@ impl<'r, R: Clock + CpuClock + RandomSource + Log> Sockets<'r, R> {
         requires { count ≤ length self.old.buffers.bytes.items }
         ensures { IfSome result (IsOf role number) }
     {
-        let Ok(bytes) = self.buffers.piece(alloc, count) else {
-            self.log.note_no_memory();
-            return None;
-        };
+        let bytes = self.bytes(alloc, count)?;
         peer_events::piece(self.rt, role, number, bytes)
+    }
+
+    /// Returns a copy of the piece at the start of the buffer; `None` if it can't be allocated.
+    fn bytes(&mut self, alloc: Global, count: usize) -> Option<Vec<u8>>
+        requires { count ≤ length self.old.buffers.bytes.items }
+    {
+        match self.buffers.piece(alloc, count) {
+            Ok(bytes) => Some(bytes),
+            Err(_) => {
+                self.log.note_no_memory();
+                None
+            }
+        }
     }
 
     /// Polls the system. All work that is queued afterwards is done before the next poll. About once a second,
@@ -241,7 +265,7 @@ impl<'r, R: Clock + CpuClock + RandomSource + Log> Sockets<'r, R> {
         }
         self.wind_down();
         let _ = self.time.look(self.rt)?;
-        self.round = self.ports.waiting();
+        self.until_poll = self.ports.waiting();
         Ok(is_watch.then_some(PeerEvent::Tick))
     }
 
@@ -304,12 +328,12 @@ impl<'r, R: Clock + CpuClock + RandomSource + Log> Sockets<'r, R> {
         }
     }
 
-    /// Processes one entry of the queue, or polls if `round` is 0.
+    /// Processes one entry of the queue, or polls if `until_poll` is 0.
     fn step(&mut self, alloc: Global) -> Result<Option<PeerEvent>, PeersFault> {
-        if self.round == 0 {
+        if self.until_poll == 0 {
             return self.wait();
         }
-        self.round -= 1;
+        self.until_poll -= 1;
         match self.ports.pop() {
             Some((role, Place::Door)) => Ok(self.accept(alloc, role)),
             Some((role, Place::Connection(number))) => Ok(self.take_turn(alloc, role, number)),
@@ -323,7 +347,7 @@ impl<'r, R: Clock + CpuClock + RandomSource + Log> Sockets<'r, R> {
     {
         let peer_event = self.serve(alloc, role, number);
         if peer_event.is_none() {
-            self.ports.settle(Duration::from_secs(0));
+            self.ports.pass(role);
         }
         peer_event
     }
@@ -347,17 +371,85 @@ impl<'r, R: Clock + CpuClock + RandomSource + Log> Sockets<'r, R> {
         Err(PeersFault)
     }
 
-    /// Ends the turn of the connection whose event was reported last. After a turn that took long, the system
-    /// is polled before the next one, since requests of other clients may have come; also once a second.
+    /// Returns one more piece of a client's connection for the round, if one is ready and the round takes one
+    /// more.
+    fn find_piece(&mut self, alloc: Global) -> Option<OwnedEvent> {
+        for _ in 0..MOST_LOOKS {
+            if !self.takes_more() || !self.is_ready() {
+                return None;
+            }
+            if let Some(event) = self.take_piece(alloc) {
+                self.round.add();
+                return Some(event);
+            }
+        }
+        None
+    }
+
+    /// Whether the round may take one more piece: its size and its time allow it, the connections hold no more
+    /// than they may, and it isn't the administrator's turn.
+    fn takes_more(&self) -> bool {
+        self.round.has_room()
+            && self.round.goes_on(self.rt)
+            && !self.ports.holds_over(self.limits.memory)
+            && !self.ports.is_admins_turn()
+    }
+
+    /// Whether an entry of a client is queued. If none is, polls the system without a wait, once a round.
+    fn is_ready(&mut self) -> bool {
+        if self.ports.clients.turns.waiting() == 0 && self.round.begins_poll() {
+            if self.take_reports(false).is_err() {
+                return false;
+            }
+            self.until_poll = self.ports.waiting();
+        }
+        self.ports.clients.turns.waiting() > 0
+    }
+
+    /// Processes one entry of the clients' queue for the round, and returns the piece that its connection hands
+    /// on.
+    ///
+    /// Ends the connection if the piece can't be allocated or stamped. That, and whatever else it has to
+    /// report, is left for its next turn after the round.
+    fn take_piece(&mut self, alloc: Global) -> Option<OwnedEvent> {
+        self.until_poll = self.until_poll.saturating_sub(1);
+        let now = self.time.now();
+        let (number, count) = self.ports.next_piece(now, &mut self.buffers.bytes)?;
+        let event = self.client_piece(alloc, number, count);
+        if event.is_none() {
+            self.ports.end_in_round(number);
+        }
+        event
+    }
+
+    /// Returns the event that a piece of a client's connection has come, which is at the start of the buffer.
+    /// `None` if it can't be allocated or stamped.
+    fn client_piece(&mut self, alloc: Global, number: u64, count: usize) -> Option<OwnedEvent>
+        requires { count ≤ length self.old.buffers.bytes.items }
+        ensures { IfSome result (λ event. event.connection ≡ number) }
+    {
+        let bytes = self.bytes(alloc, count)?;
+        peer_events::client_piece(self.rt, number, bytes)
+    }
+
+    /// Ends the turns of the connections of the last round. After turns that took long, the system is polled
+    /// before the next one, since requests of other clients may have come; also once a second.
     fn settle(&mut self) -> Result<(), PeersFault> {
         let passed = self.time.look(self.rt)?;
         let cost = self.time.cost_of(self.rt, passed)?;
+        self.round.end(self.time.worked(), self.time.now());
         self.ports.settle(cost);
         self.ports.relieve(self.limits.memory, &mut self.log.counts);
         if passed > Duration::from_millis(LONG_TURN) || self.is_watch_due() {
-            self.round = 0;
+            self.until_poll = 0;
         }
         Ok(())
+    }
+}
+
+impl<'r, R: Clock + CpuClock + RandomSource + Log> Pace for Sockets<'r, R> {
+    fn goes_on(&self) -> bool {
+        self.round.goes_on(self.rt)
     }
 }
 
@@ -377,12 +469,21 @@ impl<'r, R: Clock + CpuClock + RandomSource + Log> Peers for Sockets<'r, R> {
     ghost is_over = { λ _. false };
 
     fn next(&mut self, alloc: Global) -> Result<Option<PeerEvent>, PeersFault> {
-        self.await_event(alloc)
+        let peer_event = self.await_event(alloc)?;
+        let is_piece = peer_events::is_client_piece(&peer_event);
+        self.round.begin(self.rt, is_piece);
+        Ok(peer_event)
+    }
+
+    fn next_ready(&mut self, alloc: Global) -> Option<OwnedEvent> {
+        self.find_piece(alloc)
     }
 
     fn write(&mut self, connection: u64, bytes: &[u8]) -> usize {
         let now = self.time.now();
-        self.ports.write(Role::Client, connection, now, bytes)
+        let count = self.ports.write(Role::Client, connection, now, bytes);
+        self.round.note_reply(self.rt);
+        count
     }
 
     fn close(&mut self, connection: u64) {

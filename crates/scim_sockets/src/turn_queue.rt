@@ -15,7 +15,7 @@ use crate::time_limits::Limits;
 use mio::event::Event;
 use std::alloc::{AllocError, Global};
 use std::cmp::Reverse;
-use std::collections::BinaryHeap;
+use std::collections::{BinaryHeap, VecDeque};
 use std::net::IpAddr;
 use std::time::Duration;
 
@@ -51,6 +51,9 @@ enum Door {
 /// A connection with work to do is queued at most once, so the queue never outgrows its initial capacity. The
 /// connection whose client has the least share of the server's time is the next. A connection whose turn it was
 /// is queued again when its turn is over and the time that it took is known.
+///
+/// A round is made up of the turns of several connections that hand on a piece each. They are over together.
+/// What the others have to report is put off until then, and keeps its place in the queue.
 #[derive(Drop)]
 pub(crate) struct Turns {
     connections: Open,
@@ -61,8 +64,11 @@ pub(crate) struct Turns {
     queued: u64,
     // The share of the client that was served last.
     share: Duration,
-    // The connection whose turn it is.
-    served: Option<u64>,
+    // The connections whose turn it is, in the order in which their turns began: one, or those of a round. The
+    // capacity suffices for all connections.
+    served: VecDeque<u64>,
+    // The entries that were put off until the turns are over. The capacity suffices for all.
+    put_off: Vec<Entry>,
     door: Door,
 }
 
@@ -71,11 +77,12 @@ impl Turns {
     pub(crate) fn new(alloc: Global, most: usize) -> Result<Turns, AllocError> {
         Ok(Turns {
             queue: BinaryHeap::with_capacity(alloc, most.saturating_add(1))?,
+            served: VecDeque::with_capacity(alloc, most)?,
+            put_off: Vec::with_capacity(alloc, most.saturating_add(1))?,
             clients: Clients::new(alloc, most)?,
             connections: Open::new(alloc),
             queued: 0,
             share: Duration::from_secs(0),
-            served: None,
             door: Door::Empty,
         })
     }
@@ -123,9 +130,9 @@ impl Turns {
         self.share
     }
 
-    /// Whether it is the turn of a connection.
-    pub(crate) fn is_serving(&self) -> bool {
-        self.served.is_some()
+    /// Returns how many connections have their turn.
+    pub(crate) fn serving(&self) -> usize {
+        self.served.len()
     }
 
     /// Returns the address of the client of a connection, as [`Open::address_of`] does.
@@ -148,35 +155,65 @@ impl Turns {
         self.connections.untaken()
     }
 
-    /// Queues a place at a share.
-    fn push(&mut self, place: Place, share: Duration)
+    /// Returns the next entry, for a place at a share.
+    fn next_entry(&mut self, place: Place, share: Duration) -> Entry
         ensures { self.new.connections ≡ self.old.connections }
     {
         let order = self.queued;
         self.queued = order.saturating_add(1);
-        let _ = self.queue.push(Reverse(Entry {
+        Entry {
             share,
             order,
             place,
-        }));
+        }
+    }
+
+    /// Queues a place at a share.
+    fn push(&mut self, place: Place, share: Duration)
+        ensures { self.new.connections ≡ self.old.connections }
+    {
+        let entry = self.next_entry(place, share);
+        let _ = self.queue.push(Reverse(entry));
     }
 
     /// Removes the next entry of the queue. Returns `None` if the queue is empty, or if the next connection is
     /// queued again because its client has used more of its share meanwhile.
     pub(crate) fn pop(&mut self) -> Option<Place> {
         let entry = self.queue.pop()?.0;
-        let Place::Connection(number) = entry.place else {
-            self.door = Door::Later;
-            return Some(Place::Door);
-        };
+        match entry.place {
+            Place::Door => {
+                self.door = Door::Later;
+                Some(Place::Door)
+            }
+            Place::Connection(number) => self.begin_turn(entry, number).then_some(entry.place),
+        }
+    }
+
+    /// Removes the next entry of the queue, and begins the turn of its connection if that may hand on a piece.
+    /// Any other entry is put off until the turns are over. Returns `None` then, and in the cases in which
+    /// `pop` does.
+    pub(crate) fn pop_for_piece(&mut self) -> Option<u64> {
+        let entry = self.queue.pop()?.0;
+        if let Place::Connection(number) = entry.place
+            && self.connections.may_give_piece(number)
+        {
+            return self.begin_turn(entry, number).then_some(number);
+        }
+        let _ = self.put_off.push(entry);
+        None
+    }
+
+    /// Begins the turn of the connection of an entry that was removed from the queue. Returns false and queues
+    /// the connection again if its client has used more of its share meanwhile.
+    fn begin_turn(&mut self, entry: Entry, number: u64) -> bool {
         self.share = self.share.max(entry.share);
         let share = self.share_of(number);
         if share > entry.share.saturating_add(Duration::from_millis(SLACK)) && share > self.share {
             self.push(entry.place, share);
-            return None;
+            return false;
         }
-        self.served = Some(number);
-        Some(entry.place)
+        let _ = self.served.push_back(number);
+        true
     }
 
     /// Returns the share of the client of a connection; 0 if the connection has ended, so that it leaves next.
@@ -194,22 +231,55 @@ impl Turns {
             self.new.connections.by_number }
         ensures next { self.new.connections.next ≡ self.old.connections.next }
     {
-        if self.served != Some(number) && self.connections.begins_to_wait(number) {
+        if !self.served.contains(&number) && self.connections.begins_to_wait(number) {
             let share = self.share_of(number);
             self.push(Place::Connection(number), share);
         }
     }
 
-    /// Ends the turn of the connection that was served last, which took this time. Queues it if it has work to
-    /// do.
-    pub(crate) fn settle(&mut self, cost: Duration) {
-        if let Some(number) = self.served.take() {
+    /// Ends all turns. `cost` is what those of all ports took together, and `part` what each connection pays.
+    /// Queues the connections that have work to do, and what was put off.
+    pub(crate) fn settle(&mut self, cost: Duration, part: Duration) {
+        for _ in 0..MOST_OPEN {
+            let Some(number) = self.served.pop_front() else {
+                break;
+            };
             if let Some(client) = self.connections.client_of(number) {
-                self.clients.charge(client, self.share, cost);
+                self.clients.charge(client, self.share, part);
             }
             self.enqueue(number);
         }
+        self.take_back();
         self.share = self.share.saturating_add(cost / FADING);
+    }
+
+    /// Queues what was put off, at the places that it had.
+    fn take_back(&mut self) {
+        for _ in 0..=MOST_OPEN {
+            let Some(entry) = self.put_off.pop() else {
+                return;
+            };
+            let _ = self.queue.push(Reverse(entry));
+        }
+    }
+
+    /// Ends the turn that was begun last, which cost nothing. Queues the connection if it has work to do.
+    pub(crate) fn pass(&mut self) {
+        if let Some(number) = self.served.pop_back() {
+            self.enqueue(number);
+        }
+    }
+
+    /// Ends the turn that was begun last, which cost nothing. If the connection has work to do, that is put off
+    /// until the other turns are over.
+    pub(crate) fn pass_for_now(&mut self) {
+        if let Some(number) = self.served.pop_back()
+            && self.connections.begins_to_wait(number)
+        {
+            let share = self.share_of(number);
+            let entry = self.next_entry(Place::Connection(number), share);
+            let _ = self.put_off.push(entry);
+        }
     }
 
     /// Records that connections may be waiting to be accepted, and queues the listener unless it is queued.
@@ -291,6 +361,34 @@ impl Turns {
             Turn::Nothing | Turn::Piece(_) | Turn::Ready => (),
         }
         turn
+    }
+
+    /// Does the next work of the connection whose turn was begun last, as [`Connection::turn`] does, and
+    /// returns the length of the piece that it hands on. Otherwise its turn is over. A connection that has
+    /// ended is kept, so that its next turn reports that.
+    pub(crate) fn turn_for_piece(
+        &mut self,
+        number: u64,
+        now: Duration,
+        buffer: &mut [u8],
+    ) -> Option<usize>
+        ensures fits { IfSome result (λ count. count ≤ length buffer.new) }
+        ensures quiet { (old : Connection)
+            → connection_at self.old.connections.by_number number ≡ Some old
+            → IsBehind old ⊎ IsAsked old → result ≡ None }
+    {
+        match self.connections.turn(number, now, buffer) {
+            Turn::Piece(count) => Some(count),
+            Turn::Read(count) => {
+                self.identify(number, &buffer[..count]);
+                self.pass();
+                None
+            }
+            Turn::Nothing | Turn::Ready | Turn::Left => {
+                self.pass_for_now();
+                None
+            }
+        }
     }
 
     /// Notes the client of a connection if the bytes that it sent have a token.
