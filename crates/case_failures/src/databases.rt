@@ -6,6 +6,7 @@ ghost use Rattle.std.specs.Prelude.{◌≡◌, false};
 
 use crate::old_databases::{has_door_codes, make_old_database};
 use crate::request_parts::{RequestParts, are_answered};
+use crate::rounds::answered_together;
 use scim_audit::{AuditRow, print_row};
 use scim_cell::Text;
 use scim_json::stored_text;
@@ -13,7 +14,8 @@ use scim_policy_file::read_policy;
 use scim_samples::{BASE, POLICY, USERS};
 use scim_schema::Kind;
 use scim_service::Service;
-use scim_shelf::{CacheContents, all_of};
+use scim_shelf::all_of;
+use scim_shelf_cache::{CacheContents, CachedShelf};
 use scim_store::{SqlShelf, import};
 use scim_store_tables::is_empty_database;
 use scim_text::NoMemory;
@@ -34,6 +36,9 @@ pub(crate) enum Work<'a> {
     /// Answers these requests over the store. The result is an empty text, or `None` if a reply has the
     /// status 500.
     Answer(&'a [RequestParts]),
+    /// Answers requests of two connections in a round over the store, with a cache. The result is an empty text, or
+    /// `None` if a reply isn't a success.
+    AnswerTogether,
     /// Returns the contents of the database: the resources and the audit rows of the store, or an empty text
     /// if the database has no tables.
     Look,
@@ -61,6 +66,7 @@ pub(crate) fn work_over<S: Alter>(
             Ok(shelf) => answer(alloc, shelf, requests),
             Err((_, connection)) => (None, connection),
         },
+        Work::AnswerTogether => answer_together(alloc, connection),
         Work::Look => look_into(alloc, connection),
     }
 }
@@ -127,6 +133,23 @@ fn answer<S: Alter>(
             (told, service.into_shelf().into_connection())
         }
         Err(_) => (None, shelf.into_connection()),
+    }
+}
+
+fn answer_together<S: Alter>(
+    alloc: Global,
+    connection: Connection<S>,
+) -> (Option<String>, Connection<S>)
+    requires { connection.in_transaction ≡ false }
+{
+    let mut contents = CacheContents::new(alloc);
+    match SqlShelf::open(alloc, connection, BASE, &mut contents) {
+        Ok(shelf) => {
+            let shelf = CachedShelf::with_contents(shelf, contents);
+            let (told, shelf) = answered_together(alloc, shelf);
+            (told, shelf.into_lower().into_connection())
+        }
+        Err((_, connection)) => (None, connection),
     }
 }
 

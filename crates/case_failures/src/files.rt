@@ -1,6 +1,5 @@
 //! Files in memory that fail after a number of calls, and then crash.
 use crate::databases::{Work, work_over};
-use crate::request_parts::RequestParts;
 use scim_text::NoMemory;
 use sqlite::{Connection, Options};
 use sqlite_disk::{Crash, Disk, Files, Fuse, Memory};
@@ -26,7 +25,7 @@ pub(crate) const ALL: Calls = Calls {
     db: u64::MAX,
 };
 
-/// The result of answering requests over files that then crash.
+/// The result of work over files that then crash.
 #[derive(Drop)]
 pub(crate) struct Outcome {
     /// Whether every request was answered with another status than 500.
@@ -84,16 +83,11 @@ impl Contents {
         }
     }
 
-    /// Answers these requests over files with these contents, which fail after the given numbers of calls and
-    /// then crash. Returns the result, or `None` if memory runs out.
-    pub(crate) fn outcome(
-        &self,
-        alloc: Global,
-        calls: Calls,
-        requests: &[RequestParts],
-    ) -> Option<Outcome> {
+    /// Does the work over files with these contents, which fail after the given numbers of calls and then crash.
+    /// Returns the result, or `None` if memory runs out.
+    pub(crate) fn outcome(&self, alloc: Global, calls: Calls, work: Work<'_>) -> Option<Outcome> {
         match self.files(alloc, calls) {
-            Some(files) => Some(outcome_over(alloc, files, requests)),
+            Some(files) => Some(outcome_over(alloc, files, work)),
             None => None,
         }
     }
@@ -134,12 +128,8 @@ fn over_files<D: Disk + Drop>(
     }
 }
 
-fn outcome_over<D: Crash + Drop>(
-    alloc: Global,
-    files: Files<D>,
-    requests: &[RequestParts],
-) -> Outcome {
-    let (told, files) = over_files(alloc, files, Work::Answer(requests));
+fn outcome_over<D: Crash + Drop>(alloc: Global, files: Files<D>, work: Work<'_>) -> Outcome {
+    let (told, files) = over_files(alloc, files, work);
     let mut files = files;
     let is_whole = has_calls_left(&mut files.log) && has_calls_left(&mut files.db);
     files.log.crash();

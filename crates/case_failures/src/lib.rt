@@ -9,6 +9,7 @@ mod old_databases;
 mod once_runs;
 mod operated;
 mod request_parts;
+mod rounds;
 mod served;
 mod servers;
 mod stops;

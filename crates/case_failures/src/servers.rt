@@ -6,7 +6,7 @@ use scim_hub::Hub;
 use scim_serve::{NoOperator, serve};
 use scim_shelf::MemoryShelf;
 use scim_sockets::Sockets;
-use std::alloc::Global;
+use std::alloc::{AllocError, Global};
 use std::io;
 use std::io::{Read, Write};
 use std::net::{Ipv4Addr, Shutdown, SocketAddr, TcpStream};
@@ -27,11 +27,20 @@ const HAPPENINGS: [ScriptedEvent<'static>; 7] = [
 const REFUSAL: &str =
     "HTTP/1.1 400 Bad Request\r\nContent-Type: application/scim+json\r\nContent-Length: 109\r\nConnection: close\r\n\r\n{\"detail\":\"Malformed request head.\",\"schemas\":[\"urn:ietf:params:scim:api:messages:2.0:Error\"],\"status\":\"400\"}";
 
+/// Returns connections with [`HAPPENINGS`], which take `step` bytes at a call. If `in_rounds` is true, pieces that
+/// follow one another are ready at the same time.
+fn peers(alloc: Global, step: usize, in_rounds: bool) -> Result<ScriptedPeers, AllocError> {
+    if in_rounds {
+        ScriptedPeers::in_rounds(alloc, step, &HAPPENINGS)
+    } else {
+        ScriptedPeers::new(alloc, step, &HAPPENINGS)
+    }
+}
+
 /// Whether each connection receives all its replies if it takes `step` bytes at a call, and the server closes
 /// only the connection that sent invalid HTTP.
-fn answers_each(alloc: Global, step: usize) -> bool {
-    let (Some(mut hub), Ok(mut peers)) = (hub(alloc), ScriptedPeers::new(alloc, step, &HAPPENINGS))
-    else {
+fn answers_each(alloc: Global, step: usize, in_rounds: bool) -> bool {
+    let (Some(mut hub), Ok(mut peers)) = (hub(alloc), peers(alloc, step, in_rounds)) else {
         return false;
     };
     serve(alloc, &mut peers, &mut hub, &mut NoOperator).is_ok()
@@ -77,7 +86,11 @@ fn answers_over_socket(rt: &HostRuntime) -> bool {
 
 /// Whether each scripted connection receives all its replies if it takes `step` bytes at a call.
 pub(crate) fn peers_call(case: &Case<'_>) -> Result<String, CaseFault> {
-    truth(case.alloc, answers_each(case.alloc, case.count("step")?))
+    let in_rounds = case.is_true("rounds");
+    truth(
+        case.alloc,
+        answers_each(case.alloc, case.count("step")?, in_rounds),
+    )
 }
 
 /// Whether a client receives its replies over a socket, or the program can't listen on a socket.

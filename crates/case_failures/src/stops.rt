@@ -1,4 +1,5 @@
 //! Tests a store whose disk stops at a call, for each call in turn.
+use crate::databases::Work;
 use crate::files::{ALL, Calls, Contents, Outcome};
 use crate::request_parts::{Action, RequestParts};
 use case_values::{Case, CaseFault, named, truth};
@@ -95,7 +96,7 @@ fn is_one_of(outcome: &Outcome, right: Right<'_>) -> bool {
 fn stops_well(
     alloc: Global,
     contents: &Contents,
-    requests: &[RequestParts],
+    work: Work<'_>,
     right: Right<'_>,
     is_of_log: bool,
 ) -> bool {
@@ -105,7 +106,7 @@ fn stops_well(
         } else {
             Calls { db: count, ..ALL }
         };
-        let Some(outcome) = contents.outcome(alloc, calls, requests) else {
+        let Some(outcome) = contents.outcome(alloc, calls, work) else {
             return false;
         };
         if !is_one_of(&outcome, right) {
@@ -120,28 +121,23 @@ fn stops_well(
 
 /// Whether each stop of a file in the turn leaves the contents before the turn or the contents after it. The
 /// turn must change the contents.
-fn nothing_else_is_left(alloc: Global, contents: &Contents, requests: &[RequestParts]) -> bool {
+fn nothing_else_is_left(alloc: Global, contents: &Contents, work: Work<'_>) -> bool {
     let none = Calls { log: 0, db: 0 };
     let (Some(before), Some(after)) = (
-        contents.outcome(alloc, none, requests),
-        contents.outcome(alloc, ALL, requests),
+        contents.outcome(alloc, none, work),
+        contents.outcome(alloc, ALL, work),
     ) else {
         return false;
     };
     before.found.is_some()
         && after.found.is_some()
         && before.found != after.found
-        && both_stop_well(alloc, contents, requests, Right::Either(&before, &after))
+        && both_stop_well(alloc, contents, work, Right::Either(&before, &after))
 }
 
-fn both_stop_well(
-    alloc: Global,
-    contents: &Contents,
-    requests: &[RequestParts],
-    right: Right<'_>,
-) -> bool {
-    stops_well(alloc, contents, requests, right, true)
-        && stops_well(alloc, contents, requests, right, false)
+fn both_stop_well(alloc: Global, contents: &Contents, work: Work<'_>, right: Right<'_>) -> bool {
+    stops_well(alloc, contents, work, right, true)
+        && stops_well(alloc, contents, work, right, false)
 }
 
 /// Whether each stop of a file while a database of version 1 is opened leaves the same store, in version 1 or 2.
@@ -151,22 +147,22 @@ fn is_moved_or_not(alloc: Global) -> bool {
     };
     let none = Calls { log: 0, db: 0 };
     let (Some(before), Some(after)) = (
-        contents.outcome(alloc, none, &[]),
-        contents.outcome(alloc, ALL, &[]),
+        contents.outcome(alloc, none, Work::Answer(&[])),
+        contents.outcome(alloc, ALL, Work::Answer(&[])),
     ) else {
         return false;
     };
     before.found.is_some()
         && !before.has_door_codes
         && after.has_door_codes
-        && both_stop_well(alloc, &contents, &[], Right::Moved(&before))
+        && both_stop_well(alloc, &contents, Work::Answer(&[]), Right::Moved(&before))
 }
 
 /// Whether each stop of a file in the turn leaves the contents before the turn or the contents after it. The
 /// database has the sample users and their group before the turn.
-fn nothing_else_is_left_of(alloc: Global, requests: &[RequestParts]) -> bool {
+fn nothing_else_is_left_of(alloc: Global, work: Work<'_>) -> bool {
     match Contents::sample(alloc) {
-        Some(contents) => nothing_else_is_left(alloc, &contents, requests),
+        Some(contents) => nothing_else_is_left(alloc, &contents, work),
         None => false,
     }
 }
@@ -192,9 +188,11 @@ enum Stopped {
     Code,
     /// A database of version 1 is opened.
     Migration,
+    /// Three requests of two connections are answered in a round.
+    Round,
 }
 
-static TURNS: [(&str, Stopped); 9] = [
+static TURNS: [(&str, Stopped); 10] = [
     ("opening", Stopped::Opening),
     ("create", Stopped::Create),
     ("patch", Stopped::Patch),
@@ -204,19 +202,21 @@ static TURNS: [(&str, Stopped); 9] = [
     ("remove_group", Stopped::RemoveGroup),
     ("code", Stopped::Code),
     ("migration", Stopped::Migration),
+    ("round", Stopped::Round),
 ];
 
 fn is_done_or_not(alloc: Global, stopped: Stopped) -> bool {
     match stopped {
-        Stopped::Opening => nothing_else_is_left(alloc, &Contents::none(alloc), &[]),
-        Stopped::Create => nothing_else_is_left_of(alloc, &CREATE),
-        Stopped::Patch => nothing_else_is_left_of(alloc, &PATCH),
-        Stopped::Rename => nothing_else_is_left_of(alloc, &RENAME),
-        Stopped::Remove => nothing_else_is_left_of(alloc, &REMOVE),
-        Stopped::Put => nothing_else_is_left_of(alloc, &PUT),
-        Stopped::RemoveGroup => nothing_else_is_left_of(alloc, &REMOVE_GROUP),
-        Stopped::Code => nothing_else_is_left_of(alloc, &CODE),
+        Stopped::Opening => nothing_else_is_left(alloc, &Contents::none(alloc), Work::Answer(&[])),
+        Stopped::Create => nothing_else_is_left_of(alloc, Work::Answer(&CREATE)),
+        Stopped::Patch => nothing_else_is_left_of(alloc, Work::Answer(&PATCH)),
+        Stopped::Rename => nothing_else_is_left_of(alloc, Work::Answer(&RENAME)),
+        Stopped::Remove => nothing_else_is_left_of(alloc, Work::Answer(&REMOVE)),
+        Stopped::Put => nothing_else_is_left_of(alloc, Work::Answer(&PUT)),
+        Stopped::RemoveGroup => nothing_else_is_left_of(alloc, Work::Answer(&REMOVE_GROUP)),
+        Stopped::Code => nothing_else_is_left_of(alloc, Work::Answer(&CODE)),
         Stopped::Migration => is_moved_or_not(alloc),
+        Stopped::Round => nothing_else_is_left_of(alloc, Work::AnswerTogether),
     }
 }
 

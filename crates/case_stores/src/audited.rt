@@ -4,7 +4,8 @@ use crate::faults::StoreFault;
 use case_values::{Case, CaseFault, push_all, push_rows_after};
 use case_watchers::{RowWatcher, ToldRow};
 use scim_audit::{AuditRow, print_row};
-use scim_shelf::{CachedShelf, MemoryShelf, Shelf};
+use scim_shelf::{BatchShelf, MemoryShelf, Shelf};
+use scim_shelf_cache::CachedShelf;
 use scim_shelf_watch::WatchedShelf;
 use scim_store::SqlShelf;
 use scim_text::push;
@@ -53,7 +54,7 @@ impl<S: Alter + Drop> Audited for SqlShelf<S> {
     }
 }
 
-impl<S: Audited> Audited for CachedShelf<S> {
+impl<S: Audited + BatchShelf> Audited for CachedShelf<S> {
     fn rows_after(&mut self, alloc: Global, known: u64) -> Result<Vec<AuditRow>, StoreFault> {
         self.lower_mut().rows_after(alloc, known)
     }
@@ -115,7 +116,10 @@ fn are_told(
 
 /// Returns the store with a cache that contains all its resources. If the store can't be read, closes it and
 /// fails with `NotRead`.
-pub fn cached<S: Audited>(alloc: Global, shelf: S) -> Result<CachedShelf<S>, StoreFault> {
+pub fn cached<S: Audited + BatchShelf>(
+    alloc: Global,
+    shelf: S,
+) -> Result<CachedShelf<S>, StoreFault> {
     let mut store = CachedShelf::over(shelf);
     match store.fill(alloc) {
         Ok(()) => Ok(store),

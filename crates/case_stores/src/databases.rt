@@ -5,7 +5,8 @@ use crate::faults::StoreFault;
 use case_values::{Case, CaseFault, text_or_json};
 use scim_json::read_documents;
 use scim_samples::{BASE, USERS};
-use scim_shelf::{CacheContents, MemoryShelf};
+use scim_shelf::MemoryShelf;
+use scim_shelf_cache::CacheContents;
 use scim_store::{ImportFault, SqlShelf, import};
 use sqlite::{Alter, Connection};
 

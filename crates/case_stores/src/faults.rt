@@ -24,6 +24,9 @@ pub enum StoreFault {
     /// A watcher of the store was told something else than what was committed.
     #[error("the watcher was told other rows")]
     NotTold,
+    /// The changes of a round can't be committed.
+    #[error("the round can't be settled")]
+    NotSettled,
 }
 
 impl From<CaseFault> for StoreFault {

@@ -128,7 +128,7 @@ fn service_for<S: Audited>(
 }
 
 /// Answers a step and returns the store. Appends the replies and, if the step has `audit`, the new audit
-/// lines.
+/// lines. A step before which the audit has an even number of rows is a round, if the store has rounds.
 ///
 /// If this fails, closes the store.
 fn after_step<S: Audited>(
@@ -139,9 +139,12 @@ fn after_step<S: Audited>(
     text: &mut String,
 ) -> Result<S, StoreFault> {
     let mut service = service;
+    if *known % 2 == 0 {
+        let _begun = service.shelf_mut().begin_round(step.alloc);
+    }
     let answered = push_answers(step, asked, &mut service, text);
     let mut shelf = service.into_shelf();
-    let noted = push_new_rows(step, &mut shelf, known, text);
+    let noted = push_settled_rows(step, &mut shelf, known, text);
     match (answered, noted) {
         (Ok(()), Ok(())) => Ok(shelf),
         (Err(fault), _) => {
@@ -167,6 +170,19 @@ fn push_answers<S: Shelf>(
     }
     text.push_str(asked.store.title)?;
     push_replies(step, asked.tokens, service, text)
+}
+
+/// Ends the round that is under way, if there is one, and calls [`push_new_rows`].
+fn push_settled_rows<S: Audited>(
+    step: &Case<'_>,
+    shelf: &mut S,
+    known: &mut u64,
+    text: &mut String,
+) -> Result<(), StoreFault> {
+    match shelf.settle(step.alloc) {
+        Ok(()) => push_new_rows(step, shelf, known, text),
+        Err(_) => Err(StoreFault::NotSettled),
+    }
 }
 
 /// If the step has `audit`, appends a line for each audit row after the first `known` rows. Sets `known` to
