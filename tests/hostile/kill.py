@@ -10,7 +10,7 @@ from changes import Changes, audited, exported
 from server import Server, write_files
 from trials import options, tried
 
-LOAD = (0.02, 0.4)  # seconds between the start and the kill
+SHORTEST = 0.02  # seconds between the start and the kill
 
 
 class Load(threading.Thread):
@@ -64,7 +64,7 @@ def run(program, folder, chosen):
         if number % 5 == 0:
             killed_at_start(server, source.uniform(0, 0.05))
         server.start()
-        answered += loaded(server, all_changes, source.uniform(*LOAD))
+        answered += loaded(server, all_changes, source.uniform(SHORTEST, chosen.longest))
         users, rows = exported(program, database), audited(program, database, first)
         first += len(rows)
         for fault in filter(None, [changes.fault(users, rows) for changes in all_changes]):
@@ -79,6 +79,8 @@ def run(program, folder, chosen):
 def main():
     parser = options(__doc__, "kills", 200)
     parser.add_argument("--connections", type=int, default=6, metavar="N", help="clients at once (default 6)")
+    parser.add_argument("--longest", type=float, default=0.4, metavar="SECONDS",
+                        help="the most seconds between a start and its kill (default 0.4)")
     chosen = parser.parse_args()
     answered = tried("kill", run, chosen)
     print(f"kill: {chosen.count} kills, {answered} requests answered, none lost")

@@ -1,13 +1,15 @@
 #!/usr/bin/env python3
-"""Images of a power cut: strace records what a server writes and syncs while a client changes users. Each image has
-the calls up to a random one; of what was written since the last sync of its file it has any part. It is opened by
-`scimd export` and `scimd audit`. All that was acknowledged is there; what was under way is there, or isn't."""
+"""Images of a power cut: strace records what a server writes and syncs while clients change users, each its own. Each
+image has the calls up to a random one; of what was written since the last sync of its file it has any part. It is
+opened by `scimd export` and `scimd audit`. All that was acknowledged is there; what was under way is there, or isn't,
+with its row of the audit."""
 import codecs
 import os
 import random
 import re
 import shutil
 import sys
+import threading
 from collections import namedtuple
 
 from changes import Changes, audited, exported
@@ -16,10 +18,11 @@ from trials import options, tried
 
 SECTOR = 512
 CALLS = "pwrite64,write,sendto,fsync,fdatasync,ftruncate,unlink"
-LINE = re.compile(rb"^\d+ +(\w+)\(\d+<([^>]*)>(?:, (.*))?\) += (\d+)")
+LINE = re.compile(rb"^\d+ +(\w+)\(\d+<((?:->|[^>])*)>(?:, (.*))?\) += (\d+)")
 REMOVAL = re.compile(rb'^\d+ +unlink\("([^"]*)"\) += 0')
 TEXT = re.compile(rb'"((?:[^"\\]|\\.)*)"(.*)')
-Call = namedtuple("Call", "name file data place")  # a write's place, or the length of `ftruncate`
+Call = namedtuple("Call", "name file data place")  # a write's place, the length of `ftruncate`, or a client's port
+PORT = re.compile(r":(\d+)\]$")  # at the end of what strace says of a socket
 
 
 def parsed(path, folder):
@@ -37,7 +40,7 @@ def parsed(path, folder):
             text = TEXT.match(words or b"")
             data = codecs.escape_decode(text.group(1))[0] if text else b""
             if name in (b"sendto", b"write") and data.startswith(b"HTTP/1.1 "):
-                yield Call("reply", None, data, 0)
+                yield Call("reply", None, data, int(PORT.search(target).group(1)))
             elif os.path.dirname(target) == folder:
                 yield on_file(name.decode(), os.path.basename(target), data, words, text, int(result))
 
@@ -108,55 +111,84 @@ def apply_sectors(data, call, source):
             apply(data, call._replace(data=source.randbytes(end - at), place=call.place + at))
 
 
+class Recorded(threading.Thread):
+    """A client, its port, and the states of its users after each of its requests."""
+
+    def __init__(self, server, name, count, seed):
+        super().__init__(daemon=True)
+        self.client, self.count, self.changes = Client(server.port), count, Changes(name, seed)
+        self.port = self.client.socket.getsockname()[1]
+        self.name, self.states, self.fault = name, [{}], None
+
+    def run(self):
+        try:
+            for _ in range(self.count):
+                self.changes.ask(self.client)
+                self.states.append({name: title for name, title in self.changes.users.values()})
+        except (OSError, RuntimeError) as fault:
+            self.fault = fault
+        self.client.close()
+
+    def is_found(self, users, rows, acknowledged):
+        """Whether a store has the client's requests up to the last acknowledged one, or one more; None if neither."""
+        mine = {name: title for name, title in users.items() if name.startswith(self.name + "-")}
+        count = sum(client == self.name for client, *_ in rows)
+        for done in (acknowledged, acknowledged + 1):
+            if done < len(self.states) and mine == self.states[done] and count == done:
+                return done > acknowledged
+        return None
+
+
 def record(program, folder, chosen):
-    """Runs a server under strace; the states of the client's users after each request, and the rows then."""
-    write_files(folder)
+    """Runs a server under strace; its clients by port."""
+    names = [f"writer{number}" for number in range(chosen.connections)]
+    write_files(folder, names)
     store = os.path.join(folder, "store")
     os.mkdir(store)
-    traced = ["strace", "-f", "-y", "-x", "-s", "4000000", "-e", f"trace={CALLS}", "-e", "signal=none", "-o",
+    traced = ["strace", "-f", "-yy", "-x", "-s", "4000000", "-e", f"trace={CALLS}", "-e", "signal=none", "-o",
               os.path.join(folder, "trace")]
-    server = Server(program, folder, "--connections", "1", database="store/store.db", under=traced)
-    changes = Changes("writer", f"{chosen.seed}")
-    states, rows = [{}], [0]
+    count = max(1, chosen.requests // chosen.connections)
+    server = Server(program, folder, "--connections", str(chosen.connections), database="store/store.db", under=traced)
     with server:
-        client = Client(server.port)
-        for _ in range(chosen.requests):
-            changes.ask(client)
-            states.append({name: title for name, title in changes.users.values()})
-            rows.append(len(changes.rows))
-        client.close()
-        server.process.wait(60)
-    return states, rows
+        clients = [Recorded(server, name, count, f"{chosen.seed} {name}") for name in names]
+        for client in clients:
+            client.start()
+        for client in clients:
+            client.join()
+            if client.fault:
+                raise client.fault
+        server.process.wait(120)
+    return {client.port: client for client in clients}
 
 
-def cut(program, folder, chosen, states, rows):
+def cut(program, folder, chosen, clients):
     """Makes the images in the order of the calls, and opens each; how many had what wasn't acknowledged yet."""
     source = random.Random(chosen.seed)
     store = os.path.join(folder, "store")
     calls = list(parsed(os.path.join(folder, "trace"), store))
-    replies = sum(call.name == "reply" for call in calls)
-    if replies != chosen.requests:
-        raise RuntimeError(f"{replies} replies in the trace, not {chosen.requests}")
+    replies, asked = sum(call.name == "reply" for call in calls), sum(client.count for client in clients.values())
+    if replies != asked:
+        raise RuntimeError(f"{replies} replies in the trace, not {asked}")
     first = next(at for at, call in enumerate(calls) if call.name == "reply")
     cuts = sorted(source.randint(first if source.random() < 0.9 else 0, len(calls)) for _ in range(chosen.count))
-    files, at, acknowledged, ahead = {}, 0, 0, 0
+    files, at, acknowledged, ahead = {}, 0, dict.fromkeys(clients, 0), 0
     for number, end in enumerate(cuts, 1):
         for call in calls[at:end]:
             if call.name == "reply":
-                acknowledged += 1
+                acknowledged[call.place] += 1
             elif call.name == "unlink":
                 files.pop(call.file, None)
             else:
                 files.setdefault(call.file, File(b"")).call(call)
         at = end
-        ahead += opened(program, folder, files, source, acknowledged, states, rows)
+        ahead += opened(program, folder, files, source, acknowledged, clients)
         if number % 200 == 0:
-            print(f"{number} images, {acknowledged} requests acknowledged", flush=True)
+            print(f"{number} images, {sum(acknowledged.values())} requests acknowledged", flush=True)
     return ahead
 
 
-def opened(program, folder, files, source, acknowledged, states, rows):
-    """Opens an image; whether it has the request under way. RuntimeError if it lacks one that was acknowledged."""
+def opened(program, folder, files, source, acknowledged, clients):
+    """Opens an image; whether it has a request under way. RuntimeError if it lacks one that was acknowledged."""
     image = os.path.join(folder, "image")
     shutil.rmtree(image, ignore_errors=True)
     os.mkdir(image)
@@ -164,29 +196,33 @@ def opened(program, folder, files, source, acknowledged, states, rows):
         with open(os.path.join(image, name), "wb") as out:
             out.write(file.image(source))
     database = os.path.join(image, "store.db")
+    behind = f"behind {sum(acknowledged.values())} replies"
     try:
-        found = dict(exported(program, database).values())
-        count = len(audited(program, database, 1))
+        users, rows = dict(exported(program, database).values()), audited(program, database, 1)
     except RuntimeError as fault:
-        if acknowledged == 0:  # the database may not be made yet, and a start makes it
+        if not any(acknowledged.values()):  # the database may not be made yet, and a start makes it
             with Server(program, folder, database="image/store.db"):
                 return False
-        raise RuntimeError(f"behind {acknowledged} replies: {fault}") from fault
-    for done in (acknowledged, acknowledged + 1):
-        if done < len(states) and found == states[done] and count == rows[done]:
-            return done > acknowledged
-    raise RuntimeError(f"behind {acknowledged} replies: {len(found)} users and {count} rows, "
-                       f"in place of {len(states[acknowledged])} and {rows[acknowledged]}")
+        raise RuntimeError(f"{behind}: {fault}") from fault
+    ahead = False
+    for port, client in clients.items():
+        found = client.is_found(users, rows, acknowledged[port])
+        if found is None:
+            raise RuntimeError(f"{behind}: {client.name} was acknowledged {acknowledged[port]} requests, and the image "
+                               "has something else")
+        ahead = ahead or found
+    return ahead
 
 
 def run(program, folder, chosen):
     """How many images have a request that wasn't acknowledged yet."""
-    return cut(program, folder, chosen, *record(program, folder, chosen))
+    return cut(program, folder, chosen, record(program, folder, chosen))
 
 
 def main():
     parser = options(__doc__, "images", 2_000)
     parser.add_argument("--requests", type=int, default=400, metavar="N", help="requests that are recorded (400)")
+    parser.add_argument("--connections", type=int, default=1, metavar="N", help="clients at once (default 1)")
     chosen = parser.parse_args()
     if not shutil.which("strace"):
         sys.exit("powercut: needs strace, which isn't on this machine")
