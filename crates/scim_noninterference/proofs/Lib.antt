@@ -8,3 +8,4 @@ pub mod RequestLemmas
 pub mod LawLemmas
 pub mod ListLemmas
 pub mod CellLemmas
+pub mod Facts

@@ -51,7 +51,7 @@ all_above id (c ∷ cs) up = rw (nat_list_cmp_total.antisymm c.id id ∙ ap orde
 keep_first : (c : Content) (cs : List Content) → AreAbove c.id cs → keep c (c ∷ cs) ≡ c ∷ cs
 keep_first c cs up = rw (tied_itself nat_list_cmp_total c.id) (λ i. none_below c.id cs up i ++ c ∷ all_above c.id cs up i)
 
-keep_again : (c : Content) (cs : List Content) → IsStrictlySortedBy id_cmp cs → (k : ℕ) → k < length cs → slice_index_or cs k c ≡ c → keep c cs ≡ cs
+pub keep_again : (c : Content) (cs : List Content) → IsStrictlySortedBy id_cmp cs → (k : ℕ) → k < length cs → slice_index_or cs k c ≡ c → keep c cs ≡ cs
 keep_again c [] sorted k l e = absurd (omega arith)
 keep_again c (d ∷ ds) sorted zero l e = subst (λ (x : Content). keep x (d ∷ ds) ≡ d ∷ ds) e (keep_first d ds (sorted_head id_cmp d ds sorted))
 keep_again c (d ∷ ds) sorted (suc k) l e =
@@ -77,11 +77,11 @@ seen_without v id (d ∷ ds) sorted unseen =
 module _ (v : Viewer) where
   -- ---- what is alike
 
-  alike_refl : (s : List Content) → IsAlike v s s
+  pub alike_refl : (s : List Content) → IsAlike v s s
   alike_refl s = record { same_view = refl; same_control = refl; same_names = λ name. refl }
 
   -- two that are alike to a third
-  alike_from : (r s t : List Content) → IsAlike v r s → IsAlike v r t → IsAlike v s t
+  pub alike_from : (r s t : List Content) → IsAlike v r s → IsAlike v r t → IsAlike v s t
   alike_from r s t a b = record {
     same_view = sym a.same_view ∙ b.same_view;
     same_control = sym a.same_control ∙ b.same_control;
@@ -124,7 +124,7 @@ module _ (v : Viewer) where
         same_names = λ name. in_use_keep_same a b cs cs names name (ap (λ id. is_in_use (without id cs) name) hidden.same_id);
       })
 
-  quiet_alike : (base : List ℕ) (s t : Store) → IsStore base s → IsStore base t → IsQuiet v s.resources t.resources → IsAlike v s.resources t.resources
+  pub quiet_alike : (base : List ℕ) (s t : Store) → IsStore base s → IsStore base t → IsQuiet v s.resources t.resources → IsAlike v s.resources t.resources
   quiet_alike base s t one two (inl same) = subst (IsAlike v s.resources) same (alike_refl s.resources)
   quiet_alike base s t one two (inr (inl unseen)) = unseen_alike s.resources t.resources one.keyed.ascending two.keyed.ascending unseen
   quiet_alike base s t one two (inr (inr hidden)) = hidden_alike base s t one two hidden
