@@ -27,6 +27,7 @@ PARTS = [
     ("bytes to bytes", [("scim_command", "Once", "Answers"), ("scim_token", "Tokens", "Knows"),
                         ("scim_hub", "Events", "Runs"), ("scim_serve", "Serving", "due")]),
     ("a store in a database file", [("scim_store", "Committing", "HasStore")]),
+    ("the theorem", [("scim_headline", "Headline", "PromisesAreKept"), ("scim_headline", "Connections", "ConnectionsCanNotTell")]),
 ]
 
 def spec(crate, module):

@@ -1,0 +1,17 @@
+pub mod LeastLemmas
+pub mod StoredLemmas
+pub mod DeniedLemmas
+pub mod ShownLemmas
+pub mod PlanLemmas
+pub mod ChangeLemmas
+pub mod KeptLemmas
+pub mod WantedLemmas
+pub mod AskLemmas
+pub mod TurnLemmas
+pub mod AnswerLemmas
+pub mod ServedLemmas
+pub mod MessageLemmas
+pub mod IdLemmas
+pub mod ItemLemmas
+pub mod OutputLemmas
+pub mod HeardLemmas
