@@ -1,5 +1,5 @@
 //! Writes the events of a case as the text of an events file.
-use case_runs::request_bytes;
+use case_runs::{Store, goes_to, request_bytes};
 use case_values::{Argument, Case, CaseFault, joined, said, shown};
 use std::alloc::Global;
 
@@ -21,6 +21,19 @@ pub(crate) fn events_text(case: &Case<'_>) -> Result<String, CaseFault> {
     for value in case.list("events") {
         let lines = event_lines(case, value)?;
         text.push_str(lines.as_str())?;
+    }
+    Ok(text)
+}
+
+/// Returns the lines of those events of the list `events` that go to the store: all but the objects whose `over`
+/// names the other one.
+pub(crate) fn events_over(case: &Case<'_>, store: &Store) -> Result<String, CaseFault> {
+    let mut text = String::new(case.alloc);
+    for value in case.list("events") {
+        if value.as_str().is_some() || goes_to(&case.inner(value), store)? {
+            let lines = event_lines(case, value)?;
+            text.push_str(lines.as_str())?;
+        }
     }
     Ok(text)
 }

@@ -2,6 +2,7 @@
 use crate::audited::audit_lines;
 use crate::command_calls::end_text;
 use crate::event_lines::{events_text, piece_line};
+use crate::pairs::told_of_pair;
 use crate::recordings::Texts;
 use case_runs::request_bytes;
 use case_values::{Case, CaseFault, push_all, said, shown};
@@ -9,8 +10,11 @@ use scim_command::replay;
 use std::alloc::Global;
 
 /// Returns the output of `replay` for the events of a case. If the case has `audit`, appends the lines of the
-/// audit.
+/// audit. If the case has `beside`, runs the events on two hubs, and returns what the connections of one client get.
 pub fn answered(case: &Case<'_>) -> Result<String, CaseFault> {
+    if case.has("beside") {
+        return told_of_pair(case);
+    }
     let texts = Texts::of(case, events_text(case)?)?;
     told_of_events(case, &texts)
 }
@@ -88,7 +92,8 @@ fn push_pieces(
     Ok(events.push_str(line.as_str())?)
 }
 
-fn replayed(alloc: Global, texts: &Texts, before: &str) -> Result<String, CaseFault> {
+/// Returns `before`, followed by the output of `replay` and, if the command failed, the text of its error.
+pub(crate) fn replayed(alloc: Global, texts: &Texts, before: &str) -> Result<String, CaseFault> {
     let mut written = before.as_bytes().to_vec(alloc)?;
     let done = replay(alloc, &texts.recording(), &mut written);
     end_text(alloc, written.as_slice(), done)

@@ -7,6 +7,7 @@ mod audited;
 mod command_calls;
 mod event_lines;
 mod events;
+mod pairs;
 mod recordings;
 mod streams;
 

@@ -33,10 +33,19 @@ impl Texts {
     /// Returns the texts with these events, and with the policy, tokens, users and base of a case. By default
     /// the tokens are [`TOKENS`], and the policy, users and base are the samples.
     pub(crate) fn of(case: &Case<'_>, events: String) -> Result<Texts, CaseFault> {
+        Texts::over(case, "users", events)
+    }
+
+    /// Returns the texts as [`Texts::of`] does, with the users in the argument `users` of the case.
+    pub(crate) fn over(
+        case: &Case<'_>,
+        users: &'static str,
+        events: String,
+    ) -> Result<Texts, CaseFault> {
         Ok(Texts {
             policy: policy_text(case)?,
             tokens: said(case.alloc, case.text_or("tokens", TOKENS))?,
-            users: text_or_json(case, "users", USERS)?,
+            users: text_or_json(case, users, USERS)?,
             base: said(case.alloc, case.text_or("base", BASE))?,
             events,
         })
