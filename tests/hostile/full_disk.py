@@ -1,8 +1,10 @@
 #!/usr/bin/env python3
 """A full disk and a device that fails: what is answered 500 isn't done (but for a change whose sync fails, which may
 be there after a start), and what was acknowledged stays. The server goes on; after a failed sync it ends with status 1.
+The same with several clients at once: where the device fails, the whole round is answered 500, and the next is served.
 The full disk is a small tmpfs, which only root may mount; the device fails by strace, call by call."""
 import argparse
+import concurrent.futures
 import contextlib
 import os
 import shutil
@@ -16,6 +18,8 @@ from server import SECONDS, Server, request, write_files
 MIB = 1_048_576
 FAILURES = ["pwrite64:error=EIO:when=200..260", "fdatasync:error=EIO:when=50..60", "pwrite64:error=ENOSPC:when=90..400",
             "ftruncate:error=EIO:when=1..2"]
+ONE_WRITE = "pwrite64:error=EIO:when=300"
+CLIENTS = 16
 SHUT = "scimd: the database is shut after a failed write"
 
 
@@ -75,22 +79,34 @@ def until_full(changes, server):
     raise RuntimeError("the disk doesn't get full")
 
 
-def failing(program, folder, failure):
+def failing(program, folder, failure, clients):
     """A device that fails at some calls, and a start after it. A server whose sync fails ends by itself."""
-    write_files(folder)
-    changes = Changes("writer", failure)
+    writers = [f"writer{number}" for number in range(clients)]
+    write_files(folder, writers)
+    all_changes = [Changes(writer, failure + writer) for writer in writers]
     under = ["strace", "-f", "-o", "/dev/null", "-e", f"trace={failure.split(':')[0]}", "-e", f"inject={failure}"]
     is_sync = failure.startswith("fdatasync")
     with Server(program, folder, under=under) as server:
-        refused, has_ended = asked_to_its_end(changes, server, 300)
+        refused, has_ended = all_asked(all_changes, server, 300)
         if is_sync or has_ended:
             check_end(server)
-    if is_sync:
-        # The log has the change whose sync failed, and nobody knows whether the disk has it.
-        changes.step = changes.first_refused
+    if failure == ONE_WRITE and not has_ended and not 1 <= refused <= clients:
+        raise RuntimeError(f"{refused} requests of one round are answered 500")
     Server(program, folder).__enter__().kill()
-    checked(program, os.path.join(folder, "store.db"), changes)
-    print(f"{failure}: {changes.count} requests, {refused} answered 500; nothing acknowledged is lost")
+    for changes in all_changes:
+        if is_sync:
+            # The log has the change whose sync failed, and nobody knows whether the disk has it.
+            changes.step = changes.first_refused
+        checked(program, os.path.join(folder, "store.db"), changes)
+    print(f"{failure}, {clients} at once: {sum(changes.count for changes in all_changes)} requests, {refused} answered "
+          "500; nothing acknowledged is lost")
+
+
+def all_asked(all_changes, server, count):
+    """How many of so many requests of each client are answered 500, and whether the server ended before the last."""
+    with concurrent.futures.ThreadPoolExecutor(len(all_changes)) as pool:
+        told = list(pool.map(lambda changes: asked_to_its_end(changes, server, count), all_changes))
+    return sum(refused for refused, _ in told), any(has_ended for _, has_ended in told)
 
 
 def asked_to_its_end(changes, server, count):
@@ -121,7 +137,8 @@ def runs():
     else:
         print("full disk: left out, since only root may mount a tmpfs")
     if shutil.which("strace"):
-        yield from ((failing, (failure,)) for failure in FAILURES)
+        yield from ((failing, (failure, 1)) for failure in FAILURES)
+        yield from ((failing, (failure, CLIENTS)) for failure in [ONE_WRITE, *FAILURES])
     else:
         print("failing device: left out, since it needs strace")
 
@@ -135,7 +152,7 @@ def main():
             try:
                 run(program, folder, *words)
             except (OSError, RuntimeError, subprocess.SubprocessError) as fault:
-                print(f"{run.__name__} {' '.join(words)}: BAD: {fault}")
+                print(f"{run.__name__} {' '.join(map(str, words))}: BAD: {fault}")
                 bad = True
     sys.exit(1 if bad else 0)
 
