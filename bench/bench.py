@@ -12,10 +12,12 @@ import scenarios
 from connections import connections
 from measuring import Bench
 from slapd import slapd
+from slapd_many import slapd_many
 
 TOP = os.path.dirname(os.path.dirname(os.path.abspath(__file__)))
 SCENARIOS = [scenarios.users, scenarios.connectors, scenarios.members, scenarios.rules, scenarios.values, scenarios.cache,
-             scenarios.memory, scenarios.start, scenarios.replay, scenarios.bodies, connections, slapd]
+             scenarios.memory, scenarios.start, scenarios.replay, scenarios.bodies, connections, slapd,
+             slapd_many]
 
 
 def newest_program():
