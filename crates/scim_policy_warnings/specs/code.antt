@@ -1,0 +1,2 @@
+pub mod OutlookParts
+pub mod TokenLines
