@@ -1,0 +1,7 @@
+use Rattle.std.specs.Prelude.{is_none}
+use Rattle.scim_schema.specs.Lookup.{kind_named}
+use Rattle.scim_fault_details.proofs.WordLemmas.{found_under}
+use Rattle.scim_fault_details.proofs.rule_words.unnamed_kind.Goals as goal
+
+pub returns : goal.returns
+returns c = found_under (λ t. is_none (kind_named t)) _ _ _ _ c.first_unnamed_kind.ensures c.deref.ensures.value c.in_ok-kinds.ensures
