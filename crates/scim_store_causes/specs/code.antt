@@ -1,0 +1,3 @@
+-- How the causes are looked for.
+pub mod Looks
+pub mod Faults
