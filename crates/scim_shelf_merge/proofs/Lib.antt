@@ -1,0 +1,3 @@
+pub mod OwnerLemmas
+pub mod OutcomeLemmas
+pub mod MergeLemmas

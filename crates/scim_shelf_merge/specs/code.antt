@@ -1,0 +1,2 @@
+-- Definitions for the code that looks for other resources.
+pub mod Owners
