@@ -1,0 +1,4 @@
+pub mod ExportLemmas
+pub mod ItemLemmas
+pub mod ResourceLemmas
+pub mod ListLemmas

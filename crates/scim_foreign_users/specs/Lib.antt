@@ -1,0 +1,5 @@
+pub mod Exports
+pub mod Items
+pub mod Resources
+pub mod UsersFiles
+pub mod code

@@ -1,0 +1,2 @@
+-- Definitions for the code that makes resources of items.
+pub mod Stamps
