@@ -1,7 +1,10 @@
 pub mod Inputs
+pub mod NewTokens
+pub mod OptionDetails
 pub mod Options
 pub mod Once
 pub mod Check
+pub mod CheckReports
 pub mod Commands
 pub mod Faults
 pub mod code

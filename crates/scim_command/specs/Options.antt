@@ -1,15 +1,13 @@
 -- The options of the commands: the values that the command line has for them, or their defaults.
-use Rattle.std.specs.Prelude.{◌≡◌, ℕ, Bool, true, false, not, List, Option, None, Some, option_and_then, codes, MatchOption, if◌then◌else◌}
+use Rattle.std.specs.Prelude.{◌≡◌, ℕ, Bool, true, false, not, List, Option, None, Some, codes, IsSome, MatchOption, if◌then◌else◌}
 use Rattle.std.specs.Option.{option_copied}
 use Rattle.clap.specs.Words.{first_value, found_of, one_text}
 use Rattle.clap.specs.declared.parser.matches.ArgMatches.{ArgMatches}
 use Rattle.scim_schema.specs.declared.Kind.{Kind}
-use Rattle.scim_schema.specs.declared.Leaf.{Leaf}
 use Rattle.scim_schema.specs.Lookup.{kind_named, operation_named}
-use Rattle.scim_schema.specs.Units.{simple, leaf_at}
 use Rattle.scim_filter_grammar.specs.declared.tree.Meant.{Meant}
-use Rattle.scim_filter_grammar.specs.declared.tree.Meant.TheVariants.{Nothing, Attribute, SubAttribute}
-use Rattle.scim_filter_grammar.specs.Spelled.{path_in}
+use Rattle.scim_base_url.specs.BaseUrl.{IsBaseUrl}
+use Rattle.scim_explain_paths.specs.Paths.{path_named}
 use Rattle.scim_command.specs.declared.database_options.ArchiveOptions.{ArchiveOptions}
 use Rattle.scim_audit_listing.specs.declared.filters.AuditFilter.{AuditFilter}
 use Rattle.scim_audit_listing.specs.declared.listings.LineFormat.{LineFormat}
@@ -59,10 +57,15 @@ pub record IsFlag (matches : ArgMatches) (name : List ℕ) (given : Bool) : Type
   pub given_true : one_text (found_of matches) name ≡ Some (codes "true") → given ≡ true
   pub given_false : one_text (found_of matches) name ≡ Some (codes "false") → given ≡ false
 
+-- the option `base` has this value, which is a base URL
+pub record IsBaseGiven (matches : ArgMatches) (base : List ℕ) : Type 0 where
+  pub value : Has matches (codes "base") base
+  pub url : IsBaseUrl base
+
 -- the client, the base URL, the time and the id that `once` uses
 pub record IsArrival (matches : ArgMatches) (client base : List ℕ) (moment : ℕ) (first : List ℕ) : Type 0 where
   pub client_is : Has matches (codes "client") client
-  pub base_is : Has matches (codes "base") base
+  pub base_is : IsBaseGiven matches base
   pub moment_is : HasSome matches (codes "at") (λ value. IsMomentText value moment)
   pub first_is : HasSome matches (codes "first") (λ value. IsTextOfId value first)
 
@@ -82,7 +85,7 @@ pub record AreOfReplay (matches : ArgMatches) (o : ReplayOptions) : Type 0 where
   pub tokens : Has matches (codes "tokens") o.tokens.now
   pub users : Has matches (codes "users") o.users.now
   pub events : Has matches (codes "events") o.events.now
-  pub base : Has matches (codes "base") o.base.now
+  pub base : IsBaseGiven matches o.base.now
 
 -- the port and the token file of the administrator; both options have a value, or neither
 abbrev pub MayHaveAdmin : ArgMatches → Option AdminOptions → Type 0
@@ -103,7 +106,7 @@ pub record AreOfServe (matches : ArgMatches) (o : ServeOptions) : Type 0 where
   pub tokens : Has matches (codes "tokens") o.tokens.now
   pub database : Has matches (codes "db") o.database.now
   pub port : HasNumber matches (codes "port") o.port
-  pub base : Has matches (codes "base") o.base.now
+  pub base : IsBaseGiven matches o.base.now
   pub connections : MayHaveNumber matches (codes "connections") o.connections
   pub limits : AreOfLimits matches o.limits
   pub cache : IsFlag matches (codes "no-cache") (not o.has_cache)
@@ -139,21 +142,18 @@ pub record AreOfAudit (matches : ArgMatches) (o : AuditOptions) : Type 0 where
 pub record AreOfImport (matches : ArgMatches) (o : ImportOptions) : Type 0 where
   pub database : Has matches (codes "db") o.database.now
   pub users : Has matches (codes "users") o.users.now
+  pub foreign : IsFlag matches (codes "foreign") o.is_foreign
+  pub merge : IsFlag matches (codes "merge") o.merges
 
 -- the options of `archive`
 pub record AreOfArchive (matches : ArgMatches) (o : ArchiveOptions) : Type 0 where
   pub database : Has matches (codes "db") o.database.now
   pub archive : Has matches (codes "to") o.archive.now
 
--- the leaf that a path means, if it means one
-abbrev pub leaf_meant : Meant → Option Leaf
-leaf_meant Nothing = None
-leaf_meant (Attribute a) = Some (simple a)
-leaf_meant (SubAttribute a s) = Some (leaf_at a s)
-
--- the leaf of the kind that a text names, if it names one
-abbrev pub leaf_named : Kind → List ℕ → Option Leaf
-leaf_named kind text = option_and_then (λ path. leaf_meant path.meant) (path_in kind text)
+-- the path that `explain` is given: one of the kind with this text, or none
+abbrev pub IsPathGiven : ArgMatches → Kind → Option Meant → Type 0
+IsPathGiven matches kind path =
+    MatchOption (value_of matches (codes "path")) (path ≡ None) (λ text. IsSome path × (path ≡ path_named kind text))
 
 -- the options of `explain`
 pub record AreOfExplain (matches : ArgMatches) (o : ExplainOptions) : Type 0 where
@@ -163,7 +163,7 @@ pub record AreOfExplain (matches : ArgMatches) (o : ExplainOptions) : Type 0 whe
   pub op : HasSome matches (codes "op") (λ value. operation_named value ≡ Some o.op)
   pub kind : HasSome matches (codes "kind") (λ value. kind_named value ≡ Some o.kind)
   pub id : HasSome matches (codes "id") (λ value. IsTextOfId value o.id)
-  pub leaf : MatchOption (value_of matches (codes "path")) (o.leaf ≡ None) (λ value. (leaf : Leaf) × (o.leaf ≡ Some leaf) × (leaf_named o.kind value ≡ Some leaf))
+  pub path : IsPathGiven matches o.kind o.path
 
 -- the base URL of the resources, for commands that have no option for it
 abbrev pub default_base : List ℕ

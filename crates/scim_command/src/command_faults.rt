@@ -26,6 +26,10 @@ pub enum CommandFault {
     FilesGone,
     /// The database was shut while the server ran, because a write to the disk failed.
     StoreShut,
+    /// The system gives no random bytes.
+    NoRandomBytes,
+    /// The system gives no time that can be written as a moment.
+    NoClock,
     /// The command failed.
     Run(RunFault),
 }
@@ -51,6 +55,8 @@ impl Drop for CommandFault {
             | CommandFault::CannotServe
             | CommandFault::FilesGone
             | CommandFault::StoreShut
+            | CommandFault::NoRandomBytes
+            | CommandFault::NoClock
             | CommandFault::Run(_) => (),
         }
     }
@@ -100,6 +106,8 @@ impl CommandFault {
             | CommandFault::CannotServe
             | CommandFault::FilesGone
             | CommandFault::StoreShut
+            | CommandFault::NoRandomBytes
+            | CommandFault::NoClock
             | CommandFault::Run(_) => 1,
         }
     }
@@ -122,6 +130,8 @@ impl fmt::Display for CommandFault {
             CommandFault::CannotServe => f.write_str("cannot serve"),
             CommandFault::FilesGone => f.write_str("the database's files are gone"),
             CommandFault::StoreShut => f.write_str("the database is shut after a failed write"),
+            CommandFault::NoRandomBytes => f.write_str("no random bytes"),
+            CommandFault::NoClock => f.write_str("no time"),
             CommandFault::Run(fault) => fmt::Display::fmt(fault, f),
         }
     }

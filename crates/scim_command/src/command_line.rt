@@ -30,6 +30,8 @@ pub enum CommandName {
     Audit,
     /// Archives a database with its audit, and goes on with an empty audit.
     Archive,
+    /// Makes a new token.
+    Token,
 }
 
 impl CommandName {
@@ -47,6 +49,7 @@ impl CommandName {
             CommandName::Export,
             CommandName::Audit,
             CommandName::Archive,
+            CommandName::Token,
         ]
     }
 
@@ -64,6 +67,7 @@ impl CommandName {
             CommandName::Export => "export",
             CommandName::Audit => "audit",
             CommandName::Archive => "archive",
+            CommandName::Token => "token",
         }
     }
 
@@ -143,7 +147,7 @@ const BASE: OptionText = OptionText {
     help: "Base URL of the resources",
 };
 
-const COMMANDS: [CommandText; 9] = [
+const COMMANDS: [CommandText; 10] = [
     CommandText {
         command: CommandName::Once,
         about: "Answer one HTTP request from standard input over a users file",
@@ -170,9 +174,14 @@ const COMMANDS: [CommandText; 9] = [
         options: &[
             POLICY,
             OptionText {
+                name: "tokens",
+                form: OptionForm::Optional("FILE"),
+                help: "File of bearer tokens; also print which clients have no token, and which have no rule",
+            },
+            OptionText {
                 name: "verbose",
                 form: OptionForm::Flag,
-                help: "Also print each rule as a sentence, and the rules that can never decide",
+                help: "Also print each rule as a sentence, and warn of rules that don't give what they seem to",
             },
         ],
     },
@@ -288,7 +297,20 @@ const COMMANDS: [CommandText; 9] = [
     CommandText {
         command: CommandName::Import,
         about: "Import a users file into an empty or new database",
-        options: &[DATABASE, USERS],
+        options: &[
+            DATABASE,
+            USERS,
+            OptionText {
+                name: "foreign",
+                form: OptionForm::Flag,
+                help: "The users file is what another SCIM server exports: a list reply, or a list of resources",
+            },
+            OptionText {
+                name: "merge",
+                form: OptionForm::Flag,
+                help: "Add to what the database has: create the resources whose ids it doesn't have, replace the others",
+            },
+        ],
     },
     CommandText {
         command: CommandName::Export,
@@ -348,6 +370,11 @@ const COMMANDS: [CommandText; 9] = [
                 help: "File of the archive, which must not exist",
             },
         ],
+    },
+    CommandText {
+        command: CommandName::Token,
+        about: "Print a new random token, and its line for the token file",
+        options: &[CLIENT],
     },
 ];
 

@@ -23,6 +23,10 @@ pub struct ImportOptions<'a> {
     pub database: &'a str,
     /// The path of the users file.
     pub users: &'a str,
+    /// Whether the users file is an export of another SCIM server.
+    pub is_foreign: bool,
+    /// Whether the database may have resources, to which those of the file are added.
+    pub merges: bool,
 }
 
 /// The options of `archive`.
@@ -55,6 +59,8 @@ impl<'a> ImportOptions<'a> {
         Ok(ImportOptions {
             database: text_of(matches, "db")?,
             users: text_of(matches, "users")?,
+            is_foreign: matches.get_flag("foreign"),
+            merges: matches.get_flag("merge"),
         })
     }
 }

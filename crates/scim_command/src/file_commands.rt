@@ -1,13 +1,12 @@
 //! The commands `once` and `check` over the files that their options name.
-ghost use Rattle.std.specs.Prelude.{◌≡◌, ◌≢◌, ℕ, Bool, List, Ok, Err, IfErr, IfSome, OnOk, codes};
+ghost use Rattle.std.specs.Prelude.{◌≡◌, ◌≢◌, ℕ, List, Err, IfOk, IfErr, IfSome, OnOk, is_some};
 ghost use Rattle.std.specs.Io.KnownBytes.{Appends};
-ghost use Rattle.scim_policy.specs.Rules.{Rule};
-ghost use Rattle.scim_policy_file.specs.File.{policy_of};
 ghost use Rattle.scim_wire.specs.Streams.{AppendsFront};
-ghost use Rattle.scim_command.specs.Check.{IsCheckFault, check_text};
+ghost use Rattle.scim_command.specs.Check.{IsCheckFault};
+ghost use Rattle.scim_command.specs.CheckReports.{IsCheckReport};
 ghost use Rattle.scim_command.specs.Faults.{IsOverFiles};
 ghost use Rattle.scim_command.specs.Once.{Answers, IsOnceFault};
-ghost use Rattle.scim_command.specs.Options.{IsFlag, IsSetting};
+ghost use Rattle.scim_command.specs.Options.{IsSetting};
 ghost use Rattle.scim_command.specs.declared.command_faults.CommandFault.{CommandFault};
 ghost use Rattle.scim_command.specs.declared.faults.RunFault.{RunFault};
 ghost use Rattle.scim_command.specs.declared.run_once.Setting.{Setting};
@@ -52,30 +51,45 @@ pub fn once_over_files<R: Read, W: Write>(
     }
 }
 
-/// Runs `check`: writes the report on a policy file.
+/// Runs `check`: writes the report on a policy file and, if it is given, a token file.
 ///
-/// Fails with the first error in this order: an invalid option, an unreadable policy file, and the errors of
-/// [`check`].
+/// Fails with the first error in this order: an invalid option, an unreadable policy file, an unreadable token file, and
+/// the errors of [`check`].
 pub fn check_over_files<W: Write>(
     rt: &(impl Files + AllocGlobal),
     matches: &ArgMatches<'_>,
     writer: &mut W,
 ) -> Result<(), CommandFault>
-    ensures told { OnOk result ((policy : List ℕ) × (rules : List Rule) × (verbose : Bool)
-        × (policy_of policy ≡ Ok rules) × IsFlag matches.now (codes "verbose") verbose
-        × Appends (W.contents writer.old) (W.contents writer.new) (check_text verbose rules)) }
+    ensures told { OnOk result ((text : List ℕ) × IsCheckReport matches.now text
+        × Appends (W.contents writer.old) (W.contents writer.new) text) }
     ensures output { result ≡ Err (CommandFault.Run RunFault.Output)
-        → (policy : List ℕ) × (rules : List Rule) × (verbose : Bool)
-        × (policy_of policy ≡ Ok rules) × IsFlag matches.now (codes "verbose") verbose
-        × AppendsFront (W.contents writer.old) (W.contents writer.new) (check_text verbose rules) }
+        → (text : List ℕ) × IsCheckReport matches.now text
+        × AppendsFront (W.contents writer.old) (W.contents writer.new) text }
     ensures silent { IfErr result (λ f. f ≢ CommandFault.Run RunFault.Output
         → writer.new ≡ writer.old) }
     ensures faults { IfErr result (IsOverFiles IsCheckFault) }
 {
     let options = CheckOptions::of(matches)?;
     let policy = read_file(rt, FileKind::Policy, options.policy)?;
-    match check(rt.alloc(), policy.as_str(), options.verbose, writer) {
+    let tokens = tokens_given(rt, options.tokens)?;
+    let tokens = tokens.as_ref().map(|text| text.as_str());
+    match check(rt.alloc(), policy.as_str(), tokens, options.verbose, writer) {
         Ok(()) => Ok(()),
         Err(fault) => Err(CommandFault::Run(fault)),
+    }
+}
+
+/// Returns the text of the token file at a path, if one is given. Fails as [`read_file`] does.
+fn tokens_given(
+    rt: &(impl Files + AllocGlobal),
+    path: Option<&str>,
+) -> Result<Option<String>, CommandFault>
+    ensures given { IfOk result (λ text. is_some text ≡ is_some path.entry) }
+    ensures read { IfErr result (λ f. f ≢ CommandFault.Run RunFault.Output) }
+    ensures faults { IfErr result (IsOverFiles IsCheckFault) }
+{
+    match path {
+        Some(path) => Ok(Some(read_file(rt, FileKind::Tokens, path)?)),
+        None => Ok(None),
     }
 }

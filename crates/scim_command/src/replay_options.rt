@@ -4,8 +4,9 @@ ghost use Rattle.scim_command.specs.Options.{AreOfReplay};
 ghost use Rattle.scim_command.specs.code.FileExits.{IsOfOptions};
 
 use crate::command_faults::CommandFault;
-use crate::options::text_of;
+use crate::options::{base_of, text_of};
 use clap::ArgMatches;
+use std::alloc::Global;
 
 /// The options of `replay`.
 #[derive(Clone, Copy)]
@@ -23,8 +24,8 @@ pub struct ReplayOptions<'a> {
 }
 
 impl<'a> ReplayOptions<'a> {
-    /// Reads the options of `replay`.
-    pub fn of(matches: &ArgMatches<'a>) -> Result<ReplayOptions<'a>, CommandFault>
+    /// Reads the options of `replay`. Fails with `BadOption` if the base URL isn't valid.
+    pub fn of(alloc: Global, matches: &ArgMatches<'a>) -> Result<ReplayOptions<'a>, CommandFault>
         ensures options { IfOk result (AreOfReplay matches.now) }
         ensures fault { IfErr result IsOfOptions }
     {
@@ -33,7 +34,7 @@ impl<'a> ReplayOptions<'a> {
             tokens: text_of(matches, "tokens")?,
             users: text_of(matches, "users")?,
             events: text_of(matches, "events")?,
-            base: text_of(matches, "base")?,
+            base: base_of(alloc, matches)?,
         })
     }
 }

@@ -112,7 +112,7 @@ pub fn replay_over_files<W: Write>(
         → writer.new ≡ writer.old) }
     ensures faults { IfErr result (IsOverFiles IsReplayFault) }
 {
-    let options = ReplayOptions::of(matches)?;
+    let options = ReplayOptions::of(rt.alloc(), matches)?;
     let texts = Texts::read(rt, &options)?;
     let recording = Recording {
         policy: texts.policy.as_str(),

@@ -2,12 +2,14 @@
 ghost use Rattle.std.specs.Prelude.{◌≡◌, IfOk, IfErr, codes};
 ghost use Rattle.scim_command.specs.EventFiles.{IsNumberText};
 ghost use Rattle.scim_command.specs.Options.{AreOfLimits, AreOfServe, MayHaveAdmin, MayHaveNumber};
+ghost use Rattle.scim_command.specs.code.FileExits.{IsOfOptions};
 ghost use Rattle.scim_command.specs.declared.command_faults.CommandFault.{CommandFault};
 
 use crate::command_faults::CommandFault;
 use crate::database_options::number_of;
-use crate::options::text_of;
+use crate::options::{base_of, text_of};
 use clap::ArgMatches;
+use std::alloc::Global;
 
 /// The options of `serve`.
 #[derive(Clone, Copy)]
@@ -60,17 +62,18 @@ pub struct AdminOptions<'a> {
 
 impl<'a> ServeOptions<'a> {
     /// Reads the options of `serve`. Fails with `BadOption` if a number isn't digits, exceeds 64 bits, or is
-    /// a port above 65,535, or if only one of `--admin-port` and `--admin-tokens` is given.
-    pub fn of(matches: &ArgMatches<'a>) -> Result<ServeOptions<'a>, CommandFault>
+    /// a port above 65,535, if the base URL isn't valid, or if only one of `--admin-port` and `--admin-tokens` is
+    /// given.
+    pub fn of(alloc: Global, matches: &ArgMatches<'a>) -> Result<ServeOptions<'a>, CommandFault>
         ensures options { IfOk result (AreOfServe matches.now) }
-        ensures fault { IfErr result (λ f. f ≡ CommandFault.BadOption) }
+        ensures fault { IfErr result IsOfOptions }
     {
         Ok(ServeOptions {
             policy: text_of(matches, "policy")?,
             tokens: text_of(matches, "tokens")?,
             database: text_of(matches, "db")?,
             port: port_of(text_of(matches, "port")?)?,
-            base: text_of(matches, "base")?,
+            base: base_of(alloc, matches)?,
             connections: connections_of(matches)?,
             limits: LimitOptions::of(matches)?,
             has_cache: !matches.get_flag("no-cache"),

@@ -3,7 +3,7 @@ use Rattle.std.specs.Prelude.{ℕ, false, List, Result, Ok, Err, String, string_
 use Rattle.std.specs.declared.alloc.Global.{Global}
 use Rattle.scim_text.specs.declared.memory.NoMemory.{NoMemory}
 use Rattle.scim_command.specs.declared.faults.RunFault.{RunFault}
-use Rattle.scim_command.specs.declared.faults.RunFault.TheVariants.{Policy, InputEnded, InputFailed, NoMemory as WantOfMemory}
+use Rattle.scim_command.specs.declared.faults.RunFault.TheVariants.{Policy, Tokens, InputEnded, InputFailed, NoMemory as WantOfMemory}
 use Rattle.scim_command.specs.Faults.{IsOfUsers}
 use Rattle.scim_audit.specs.declared.refusals.Refusal.TheVariants.{Store}
 use Rattle.scim_wire.specs.Replies.{whole_form}
@@ -25,8 +25,9 @@ abbrev pub IsOfFiles : RunFault → Type 0
 IsOfFiles (Policy rule cause) = Unit {0}
 IsOfFiles f = IsOfUsers f
 
--- the fault is `Policy` or `NoMemory`
-abbrev pub IsOfPolicy : RunFault → Type 0
-IsOfPolicy (Policy rule cause) = Unit {0}
-IsOfPolicy WantOfMemory = Unit {0}
-IsOfPolicy _ = ⊥
+-- the fault is `Policy`, `Tokens` or `NoMemory`
+abbrev pub IsOfChecked : RunFault → Type 0
+IsOfChecked (Policy rule cause) = Unit {0}
+IsOfChecked (Tokens n) = Unit {0}
+IsOfChecked WantOfMemory = Unit {0}
+IsOfChecked _ = ⊥
