@@ -6,3 +6,4 @@ pub mod ImportLemmas
 pub mod ExportLemmas
 pub mod ReadLemmas
 pub mod WorkLemmas
+pub mod MergeLemmas

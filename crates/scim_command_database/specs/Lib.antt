@@ -3,5 +3,6 @@ pub mod Audit
 pub mod Explaining
 pub mod Exports
 pub mod Faults
+pub mod Merges
 pub mod Works
 pub mod code

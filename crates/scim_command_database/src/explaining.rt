@@ -10,16 +10,18 @@ ghost use Rattle.scim_command_database.specs.Explaining as spec;
 
 use scim_cell::Id;
 use scim_command::{ExplainOptions, RunFault, write_or_fault};
-use scim_explain::{explain as explanation_of, print, table};
+use scim_explain::table;
+use scim_explain_paths::explain_path;
+use scim_filter_grammar::Meant;
 use scim_policy::Policy;
-use scim_schema::{Kind, Leaf, Op};
+use scim_schema::{Kind, Op};
 use scim_shelf::Shelf;
 use scim_text::NoMemory;
 use scim_value::Resource;
 use std::alloc::Global;
 use std::io::Write;
 
-/// The question of `explain`: a client's operation on a resource or on one of its leaves.
+/// The question of `explain`: a client's operation on a resource or on one of its attributes.
 #[derive(Clone, Copy)]
 pub struct Question<'a> {
     /// The name of the client.
@@ -30,8 +32,8 @@ pub struct Question<'a> {
     pub kind: Kind,
     /// The id of the resource.
     pub id: Id,
-    /// The leaf to explain; `None` for a table of the decisions on all leaves.
-    pub leaf: Option<Leaf>,
+    /// The attribute or sub-attribute to explain; `None` for a table of the decisions on all leaves.
+    pub path: Option<Meant>,
 }
 
 impl<'a> Question<'a> {
@@ -46,13 +48,13 @@ impl<'a> Question<'a> {
             op: options.op,
             kind: options.kind,
             id: options.id,
-            leaf: options.leaf,
+            path: options.path,
         }
     }
 }
 
-/// Writes the explanation of the policy's decision on the question's leaf: which rule decides, and why each
-/// rule before it doesn't. Without a leaf, writes a table of the decisions on all leaves.
+/// Writes the explanation of the policy's decision on each leaf that the question's path covers: which rule decides,
+/// and why each rule before it doesn't. Without a path, writes a table of the decisions on all leaves.
 ///
 /// The policy decides on the resource as it is stored. Fails with `Absent` if no resource of the kind has the
 /// id. Fails with `Database` if the store can't be read. Fails with `Output` if a write fails; then a prefix
@@ -98,18 +100,9 @@ pub fn told(
     ensures { IfOk result (λ text. string_bytes text
         ≡ spec.told policy.now question.now resource.now) }
 {
-    match question.leaf {
-        Some(leaf) => {
-            let explanation = explanation_of(
-                alloc,
-                policy,
-                question.client,
-                question.op,
-                resource,
-                leaf,
-            )?;
-            print(alloc, &explanation)
-        }
-        None => table(alloc, policy, question.client, question.op, resource),
+    let (client, op) = (question.client, question.op);
+    match question.path {
+        Some(path) => explain_path(alloc, policy, client, op, resource, path),
+        None => table(alloc, policy, client, op, resource),
     }
 }

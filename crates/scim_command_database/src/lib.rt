@@ -11,6 +11,7 @@ mod exporting;
 mod faults;
 mod importing;
 mod laws;
+mod merging;
 mod works;
 
 pub use archiving::{archive, archive_databases};
@@ -20,4 +21,5 @@ pub use exporting::export;
 pub use faults::unopened;
 pub use importing::import;
 pub use laws::exports_are_imported;
+pub use merging::{MERGE_CLIENT, Merging, merge_users};
 pub use works::{Auditing, DatabaseWork, Explaining, Importing, open_cached};
