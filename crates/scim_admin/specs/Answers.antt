@@ -1,6 +1,5 @@
 -- What the replies to requests of the administrator tell.
 use Rattle.std.specs.Prelude.{◌≡◌, ◌⊎◌, ◌<◌, ◌^◌, ℕ, Bool, true, false, List, length, find, Option, None, Some, IsSome, MatchOption, codes, string_bytes}
-use Rattle.scim_schema.specs.declared.Leaf.{Leaf}
 use Rattle.scim_text.specs.declared.memory.Failed.TheVariants.{Because}
 use Rattle.scim_cell.specs.Content.{Content}
 use Rattle.scim_audit_listing.specs.declared.listings.LineFormat.{LineFormat}
@@ -13,7 +12,8 @@ use Rattle.scim_shelf.specs.Shelves.{count_after}
 use Rattle.scim_shelf.specs.Stores.{Store, is_at}
 use Rattle.scim_hub.specs.declared.hubs.Hub.{Hub}
 use Rattle.scim_hub.specs.HubSetting.{hub_policy, hub_shelf}
-use Rattle.scim_command.specs.Options.{leaf_named}
+use Rattle.scim_explain_paths.specs.Paths.{path_named}
+use Rattle.scim_filter_grammar.specs.declared.tree.Meant.{Meant}
 use Rattle.scim_command_database.specs.declared.explaining.Question.{Question}
 use Rattle.scim_command_database.specs.Explaining.{told}
 use Rattle.scim_command_database.specs.Exports.{export_text}
@@ -71,9 +71,9 @@ TellsAll Stands IsHonest failures old new is_exporting closes reply =
 
 -- ---- explanations
 
--- the leaf is the one that the path of the query names; there is none if there is no path
-abbrev pub IsLeafOf : ExplainQuery → Option Leaf → Type 0
-IsLeafOf q leaf = MatchOption q.path (leaf ≡ None) (λ path. (named : Leaf) × (leaf ≡ Some named) × (leaf_named q.kind path ≡ Some named))
+-- the path is the one of the kind that the query names; there is none if it names none
+abbrev pub IsPathOf : ExplainQuery → Option Meant → Type 0
+IsPathOf q path = MatchOption q.path (path ≡ None) (λ text. IsSome path × (path ≡ path_named q.kind text))
 
 -- The question of a query.
 pub record IsQuestion (q : ExplainQuery) (question : Question) : Type 0 where
@@ -81,7 +81,7 @@ pub record IsQuestion (q : ExplainQuery) (question : Question) : Type 0 where
   pub op : question.op ≡ q.op
   pub kind : question.kind ≡ q.kind
   pub id : question.id ≡ q.id
-  pub leaf : IsLeafOf q question.leaf
+  pub path : IsPathOf q question.path
 
 -- the reply explains the policy's decision on the resource of the kind with the id, or says that there is none
 abbrev pub Explains : List Rule → Question → Reply → List Content → Type 0

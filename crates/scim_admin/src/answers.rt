@@ -24,10 +24,10 @@ use scim_admin_text::{
 };
 use scim_audit::Refusal;
 use scim_audit_listing::LineFormat;
-use scim_command::leaf_at;
 use scim_command_database::{Question, told};
+use scim_explain_paths::path_named;
+use scim_filter_grammar::Meant;
 use scim_hub::Hub;
-use scim_schema::Leaf;
 use scim_serve::{Figures, Peers};
 use scim_shelf::Shelf;
 use scim_shelf_watch::WatchedShelf;
@@ -239,16 +239,16 @@ fn unreadable(alloc: Global, closes: bool) -> Result<Reply, NoMemory>
     plain(alloc, Status::InternalServerError, closes, body)
 }
 
-/// Returns the leaf that the query names, if it names one. Fails with `BadValue` if its path doesn't name one
-/// leaf of the kind.
-fn leaf_of(query: &ExplainQuery) -> Result<Option<Leaf>, AdminRefusal>
-    ensures leaf { IfOk result (spec.IsLeafOf query.now) }
+/// Returns the path that the query names, if it names one. Fails with `BadValue` if the kind has no attribute or
+/// sub-attribute with this name.
+fn path_of(query: &ExplainQuery) -> Result<Option<Meant>, AdminRefusal>
+    ensures path { IfOk result (spec.IsPathOf query.now) }
     ensures fault { IfErr result (λ fault. IsSome query.now.path
         × (fault ≡ AdminRefusal.BadValue Parameter.Path)) }
 {
     match &query.path {
-        Some(path) => match leaf_at(query.kind, path.as_str()) {
-            Some(leaf) => Ok(Some(leaf)),
+        Some(text) => match path_named(query.kind, text.as_str()) {
+            Some(path) => Ok(Some(path)),
             None => Err(AdminRefusal::BadValue(Parameter::Path)),
         },
         None => Ok(None),
@@ -268,8 +268,8 @@ fn explain<S: OpenShelf, H: Host>(
         ⟦<WatchedShelf<S, ServerWatch<H>> as Shelf>⟧.is_honest
         ⟦<WatchedShelf<S, ServerWatch<H>> as Shelf>⟧.failures hub.old hub.new query.now) }
 {
-    let leaf = match leaf_of(query) {
-        Ok(leaf) => leaf,
+    let path = match path_of(query) {
+        Ok(path) => path,
         Err(refusal) => return refused(alloc, refusal, closes),
     };
     match hub.shelf_mut().by_id(alloc, query.kind, query.id) {
@@ -279,7 +279,7 @@ fn explain<S: OpenShelf, H: Host>(
                 op: query.op,
                 kind: query.kind,
                 id: query.id,
-                leaf,
+                path,
             };
             let text = told(alloc, hub.policy(), &question, &resource)?;
             plain(alloc, Status::Ok, closes, text.as_str())

@@ -20,8 +20,8 @@ returns-in_ok-text-in-Ok-Some-clause-tells g c =
     let IsHonest : S → Type 0 = λ shelf. g.S.Shelf.is_honest (lower_of shelf) in
     let failures : S → ℕ = λ shelf. shelf.failures in
     let q = c.args.query.now in
-    let question : Question = record { client = c.as_str.result; op = q.op; kind = q.kind; id = q.id; leaf = c.in-Ok.leaf } in
-    let asks : IsQuestion q question = record { client = c.as_str.ensures; op = refl; kind = refl; id = refl; leaf = c.in-Ok.ensures.leaf } in
+    let question : Question = record { client = c.as_str.result; op = q.op; kind = q.kind; id = q.id; path = c.in-Ok.path } in
+    let asks : IsQuestion q question = record { client = c.as_str.ensures; op = refl; kind = refl; id = refl; path = c.in-Ok.ensures.path } in
     let resource = c.in-Ok-Some.resource in
     found_tells Stands IsHonest failures c.args.hub.now (with_hub_shelf c.args.hub.now c.by_id.new.self) q question asks resource c.as_str-in-Ok-Some.result.now c.plain.result
     (λ store stands honest. sym (c.in-Ok-Some.ensures.answer store (subst (λ (s : S). Stands s store) (sym c.shelf_mut.ensures.shows) stands) honest) ∙ c.in-Ok-Some.field-0-is)
@@ -35,8 +35,8 @@ returns-in-Ok-None-clause-tells g c =
     let IsHonest : S → Type 0 = λ shelf. g.S.Shelf.is_honest (lower_of shelf) in
     let failures : S → ℕ = λ shelf. shelf.failures in
     let q = c.args.query.now in
-    let question : Question = record { client = reference_to q.client; op = q.op; kind = q.kind; id = q.id; leaf = c.in-Ok.leaf } in
-    let asks : IsQuestion q question = record { client = refl; op = refl; kind = refl; id = refl; leaf = c.in-Ok.ensures.leaf } in
+    let question : Question = record { client = reference_to q.client; op = q.op; kind = q.kind; id = q.id; path = c.in-Ok.path } in
+    let asks : IsQuestion q question = record { client = refl; op = refl; kind = refl; id = refl; path = c.in-Ok.ensures.path } in
     none_tells Stands IsHonest failures c.args.hub.now (with_hub_shelf c.args.hub.now c.by_id.new.self) q question asks
     c.plain-in-Ok-None.result
     (λ store stands honest. sym (c.in-Ok-None.ensures.answer store (subst (λ (s : S). Stands s store) (sym c.shelf_mut.ensures.shows) stands) honest) ∙ c.in-Ok-None.field-0-is)
