@@ -3,7 +3,8 @@
 ghost use Rattle.std.specs.Prelude.{◌≡◌, false};
 
 use crate::database_files::create_database_file;
-use crate::databases::tell_if_unusable;
+use crate::databases::{not_opened, unusable_detail, with_detail};
+use crate::failures::Failure;
 use clap::ArgMatches;
 use scim_archive_files::{ArchiveNames, put_in_place, remove_parts};
 use scim_command::{ArchiveCause, ArchiveOptions, CommandFault, DEFAULT_BASE, RunFault, find_file};
@@ -18,24 +19,26 @@ use std::io::{Error, ErrorKind, Write};
 /// Fails with `CannotRead` if the database doesn't exist, with `CannotArchive` if the archive exists or a step fails,
 /// and with the errors of opening the database. After a fault the database is as it was, or the new one is in its place
 /// and the archive is whole.
-pub(crate) fn run_archive(rt: &HostRuntime, matches: &ArgMatches<'_>) -> Result<(), CommandFault> {
+pub(crate) fn run_archive(rt: &HostRuntime, matches: &ArgMatches<'_>) -> Result<(), Failure> {
     let options = ArchiveOptions::of(matches)?;
     find_file(rt, options.database)?;
     let path = options.archive;
     match &ArchiveNames::find(rt, options.database, path) {
         Ok(names) => archive_database(Archiving { rt, names, path }),
-        Err(error) => Err(fault_of(rt, path, *error)),
+        Err(error) => Err(Failure::from(fault_of(rt, path, *error))),
     }
 }
 
 /// Opens the database, makes the new one of its resources, closes it so that it is whole without its log, and then puts
 /// the archive and the new database in place. No other program can open the database before that is done.
-fn archive_database(archiving: Archiving<'_>) -> Result<(), CommandFault> {
+fn archive_database(archiving: Archiving<'_>) -> Result<(), Failure> {
     let rt = archiving.rt;
-    match Connection::open(rt, archiving.names.database()) {
+    let path = archiving.names.database();
+    match Connection::open(rt, path) {
         Ok(connection) => {
             let (made, connection) = archiving.over(rt.alloc(), connection, &mut rt.stdout());
-            tell_if_unusable(rt, &made, &connection);
+            let mut connection = connection;
+            let detail = unusable_detail(rt.alloc(), &made, &mut connection);
             let (files, is_closed) = match connection.close_files() {
                 Ok(files) => (files, true),
                 Err((_error, store)) => (store.close(), false),
@@ -43,9 +46,9 @@ fn archive_database(archiving: Archiving<'_>) -> Result<(), CommandFault> {
             let done = archiving.finish(made, is_closed);
             // Whoever has the files has the lock on the database.
             drop(files);
-            done
+            with_detail(done, detail)
         }
-        Err(error) => Err(CommandFault::Run(unopened(error))),
+        Err(error) => Err(not_opened(rt, path, error)),
     }
 }
 

@@ -1,36 +1,60 @@
 //! The commands over a database file.
 use crate::database_files::create_database_file;
+use crate::details::database_detail;
+use crate::failures::Failure;
 use clap::ArgMatches;
 use scim_command::{
-    AuditOptions, CommandFault, DEFAULT_BASE, DatabaseFault, ExplainOptions, ExportOptions,
-    FileKind, ImportOptions, RunFault, find_file, policy_at, read_file,
+    AuditOptions, CommandFault, DatabaseFault, ExplainOptions, ExportOptions, RunFault, find_file,
+    policy_at,
 };
-use scim_command_database::{Auditing, DatabaseWork, Explaining, Importing, Question, unopened};
-use scim_json::check_documents;
-use scim_store_tables::foreign_object;
-use sqlite::{Alter, Connection};
+use scim_command_database::{Auditing, DatabaseWork, Explaining, Question, unopened};
+use scim_store_causes::{open_cause, unusable_cause};
+use sqlite::{Alter, Connection, Error};
+use std::alloc::Global;
 
 /// Opens the database at a path, runs a command on it, and closes it. If the file doesn't exist, creates it so that
-/// only its owner can read and write it. If the command can't use the database, prints on standard error which table, index or view isn't one of this
-/// server's, if there is one.
+/// only its owner can read and write it.
 ///
-/// Fails with `Database` or `NoMemory` if the database can't be opened, or with the error of the command. A
-/// failed close loses nothing: committed changes are in the log, which is read when the database is next
-/// opened.
+/// Fails with `Database` or `NoMemory` if the database can't be opened, or with the error of the command. If the command
+/// can't use the database, the failure says why. A failed close loses nothing: committed changes are in the log, which is
+/// read when the database is next opened.
 pub(crate) fn with_database<W: DatabaseWork + Drop>(
     rt: &HostRuntime,
     path: &str,
     work: W,
-) -> Result<(), CommandFault> {
+) -> Result<(), Failure> {
     create_database_file(rt, path);
     match Connection::open(rt, path) {
         Ok(connection) => {
             let (done, connection) = work.over(rt.alloc(), connection, &mut rt.stdout());
-            tell_if_unusable(rt, &done, &connection);
+            let mut connection = connection;
+            let detail = unusable_detail(rt.alloc(), &done, &mut connection);
             let _closed = connection.close();
-            done
+            with_detail(done, detail)
         }
-        Err(error) => Err(CommandFault::Run(unopened(error))),
+        Err(error) => Err(not_opened(rt, path, error)),
+    }
+}
+
+/// Returns the failure for a database file that can't be opened, because of this error.
+pub(crate) fn not_opened(rt: &HostRuntime, path: &str, error: Error) -> Failure {
+    Failure {
+        fault: CommandFault::Run(unopened(error)),
+        detail: match open_cause(&error) {
+            Some(cause) => database_detail(rt, path, cause),
+            None => None,
+        },
+    }
+}
+
+/// Returns the result of a command, with a second line for its error if there is one.
+pub(crate) fn with_detail(
+    done: Result<(), CommandFault>,
+    detail: Option<String>,
+) -> Result<(), Failure> {
+    match done {
+        Ok(()) => Ok(()),
+        Err(fault) => Err(Failure { fault, detail }),
     }
 }
 
@@ -45,24 +69,18 @@ fn is_unusable(done: &Result<(), CommandFault>) -> bool {
     }
 }
 
-/// If a command failed because it can't use the database, prints a line on standard error that names the first
-/// table, index or view that isn't one of this server's, if there is one.
-pub(crate) fn tell_if_unusable<S: Alter>(
-    rt: &HostRuntime,
+/// If a command failed because it can't use the database, returns why; `None` if no cause is found.
+pub(crate) fn unusable_detail<S: Alter>(
+    alloc: Global,
     done: &Result<(), CommandFault>,
-    connection: &Connection<S>,
-) {
-    if is_unusable(done) {
-        tell_foreign_object(rt, connection);
+    connection: &mut Connection<S>,
+) -> Option<String> {
+    if !is_unusable(done) {
+        return None;
     }
-}
-
-/// Prints a line on standard error that names the first table, index or view that isn't one of this server's.
-/// Prints nothing if there is none. The line comes before the line of the fault; if it can't be written, the
-/// fault is printed without it.
-fn tell_foreign_object<S: Alter>(rt: &HostRuntime, connection: &Connection<S>) {
-    if let Some(object) = foreign_object(connection.schema()) {
-        let _written = eprintln!(rt; "scimd: {object}");
+    match unusable_cause(alloc, connection) {
+        Ok(Some(cause)) => format!(in alloc; "{cause}").ok(),
+        _ => None,
     }
 }
 
@@ -73,13 +91,13 @@ fn with_database_there<W: DatabaseWork + Drop>(
     rt: &HostRuntime,
     path: &str,
     work: W,
-) -> Result<(), CommandFault> {
+) -> Result<(), Failure> {
     find_file(rt, path)?;
     with_database(rt, path, work)
 }
 
 /// Runs `explain`: explains a decision. The policy file is read before the database is opened.
-pub(crate) fn run_explain(rt: &HostRuntime, matches: &ArgMatches<'_>) -> Result<(), CommandFault> {
+pub(crate) fn run_explain(rt: &HostRuntime, matches: &ArgMatches<'_>) -> Result<(), Failure> {
     let options = ExplainOptions::of(matches)?;
     let policy = policy_at(rt, options.policy)?;
     let question = Question::of(&options);
@@ -87,26 +105,13 @@ pub(crate) fn run_explain(rt: &HostRuntime, matches: &ArgMatches<'_>) -> Result<
 }
 
 /// Runs `audit`: prints rows of the audit.
-pub(crate) fn run_audit(rt: &HostRuntime, matches: &ArgMatches<'_>) -> Result<(), CommandFault> {
+pub(crate) fn run_audit(rt: &HostRuntime, matches: &ArgMatches<'_>) -> Result<(), Failure> {
     let options = AuditOptions::of(rt.alloc(), matches)?;
     with_database_there(rt, options.database, Auditing(&options.listing))
 }
 
 /// Runs `export`: writes the users file of a store.
-pub(crate) fn run_export(rt: &HostRuntime, matches: &ArgMatches<'_>) -> Result<(), CommandFault> {
+pub(crate) fn run_export(rt: &HostRuntime, matches: &ArgMatches<'_>) -> Result<(), Failure> {
     let options = ExportOptions::of(matches)?;
     with_database_there(rt, options.database, options)
-}
-
-/// Runs `import`: stores the resources of a users file in an empty database.
-///
-/// The users file is validated before the database is opened, so that no database is created for an invalid
-/// file.
-pub(crate) fn run_import(rt: &HostRuntime, matches: &ArgMatches<'_>) -> Result<(), CommandFault> {
-    let options = ImportOptions::of(matches)?;
-    let users = read_file(rt, FileKind::Users, options.users)?;
-    if let Err(fault) = check_documents(rt.alloc(), DEFAULT_BASE, users.as_str()) {
-        return Err(CommandFault::Run(fault.into()));
-    }
-    with_database(rt, options.database, Importing(users.as_str()))
 }

@@ -7,16 +7,22 @@ mod archives;
 mod audit_logs;
 mod database_files;
 mod databases;
+mod details;
+mod failures;
+mod imports;
 mod servers;
 mod start_lines;
 mod system_hosts;
 
 use archives::run_archive;
 use clap::{ArgMatches, Error};
-use databases::{run_audit, run_explain, run_export, run_import};
+use databases::{run_audit, run_explain, run_export};
+use details::detail_of;
+use failures::Failure;
+use imports::run_import;
 use scim_command::{
     CommandFault, CommandName, RunFault, check_over_files, command, once_over_files,
-    replay_over_files,
+    print_new_token, replay_over_files,
 };
 use servers::run_serve;
 use std::io::ErrorKind;
@@ -33,7 +39,11 @@ fn main(rt: HostRuntime) -> ExitCode {
     take_stack(&rt);
     match words(&rt) {
         Ok(words) => run_words(&rt, words.as_slice()),
-        Err(error) if error.kind() == ErrorKind::InvalidData => tell(&rt, &CommandFault::NotText),
+        Err(error) if error.kind() == ErrorKind::InvalidData => tell(
+            &rt,
+            &CommandFault::NotText,
+            None,
+        ),
         Err(_) => ExitCode::FAILURE,
     }
 }
@@ -72,36 +82,57 @@ fn show(rt: &HostRuntime, error: &Error) -> ExitCode {
 
 /// Runs the command of the parsed arguments and returns the exit status.
 fn run_matches(rt: &HostRuntime, matches: &ArgMatches<'_>) -> ExitCode {
-    match &run_command(rt, matches) {
+    let Some((name, matches)) = matches.subcommand() else {
+        return tell(rt, &CommandFault::BadOption, None);
+    };
+    match run_command(rt, name, matches) {
         Ok(()) => ExitCode::SUCCESS,
-        // No message: standard output has failed, so there may be no reader.
-        Err(CommandFault::Run(RunFault::Output)) => ExitCode::FAILURE,
-        Err(fault) => tell(rt, fault),
+        Err(failure) => tell_failure(rt, matches, &failure),
     }
 }
 
-/// Runs the command that the parsed arguments name, and returns its result.
-fn run_command(rt: &HostRuntime, matches: &ArgMatches<'_>) -> Result<(), CommandFault> {
-    let Some((name, matches)) = matches.subcommand() else {
-        return Err(CommandFault::BadOption);
-    };
+/// Runs the command with this name, and returns its result.
+fn run_command(rt: &HostRuntime, name: &str, matches: &ArgMatches<'_>) -> Result<(), Failure> {
     match CommandName::named(name) {
-        Some(CommandName::Once) => once_over_files(rt, matches, &mut rt.stdin(), &mut rt.stdout()),
-        Some(CommandName::Check) => check_over_files(rt, matches, &mut rt.stdout()),
-        Some(CommandName::Replay) => replay_over_files(rt, matches, &mut rt.stdout()),
+        Some(CommandName::Once) => {
+            Ok(once_over_files(rt, matches, &mut rt.stdin(), &mut rt.stdout())?)
+        }
+        Some(CommandName::Check) => Ok(check_over_files(rt, matches, &mut rt.stdout())?),
+        Some(CommandName::Replay) => Ok(replay_over_files(rt, matches, &mut rt.stdout())?),
+        Some(CommandName::Token) => Ok(print_new_token(rt, matches, &mut rt.stdout())?),
         Some(CommandName::Serve) => run_serve(rt, matches),
         Some(CommandName::Explain) => run_explain(rt, matches),
         Some(CommandName::Audit) => run_audit(rt, matches),
         Some(CommandName::Export) => run_export(rt, matches),
         Some(CommandName::Import) => run_import(rt, matches),
         Some(CommandName::Archive) => run_archive(rt, matches),
-        None => Err(CommandFault::BadOption),
+        None => Err(Failure::from(CommandFault::BadOption)),
     }
 }
 
-/// Prints an error as one line on standard error, and returns the exit status.
-fn tell(rt: &HostRuntime, fault: &CommandFault) -> ExitCode {
-    match eprintln!(rt; "scimd: {fault}") {
+/// Prints the failure of a command with these options, and returns the exit status.
+fn tell_failure(rt: &HostRuntime, matches: &ArgMatches<'_>, failure: &Failure) -> ExitCode {
+    // No message: standard output has failed, so there may be no reader.
+    if let CommandFault::Run(RunFault::Output) = &failure.fault {
+        return ExitCode::FAILURE;
+    }
+    if let Some(detail) = &failure.detail {
+        return tell(rt, &failure.fault, Some(detail.as_str()));
+    }
+    match &detail_of(rt, matches, &failure.fault) {
+        Some(detail) => tell(rt, &failure.fault, Some(detail.as_str())),
+        None => tell(rt, &failure.fault, None),
+    }
+}
+
+/// Prints an error as one line on standard error, and on a second line what more is to be said of it, if anything.
+/// Returns the exit status.
+fn tell(rt: &HostRuntime, fault: &CommandFault, detail: Option<&str>) -> ExitCode {
+    let printed = match detail {
+        Some(detail) => eprintln!(rt; "scimd: {fault}\n  {detail}"),
+        None => eprintln!(rt; "scimd: {fault}"),
+    };
+    match printed {
         Ok(()) => ExitCode::from(fault.exit_status()),
         Err(_) => ExitCode::FAILURE,
     }

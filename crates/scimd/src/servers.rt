@@ -1,6 +1,7 @@
 //! The command `serve`: serves a database to many clients, and to an administrator.
 use crate::audit_logs::AuditLog;
 use crate::databases::with_database;
+use crate::failures::Failure;
 use crate::start_lines::{FileCounts, log_files, log_ports, log_start};
 use crate::system_hosts::SystemHost;
 use clap::ArgMatches;
@@ -84,18 +85,18 @@ impl DatabaseWork for Serving<'_> {
 
 /// Runs `serve`: serves a database, which is created if it doesn't exist. The policy and token files are read, and
 /// the audit log is opened, before the database is opened.
-pub(crate) fn run_serve(rt: &HostRuntime, matches: &ArgMatches<'_>) -> Result<(), CommandFault> {
-    let options = ServeOptions::of(matches)?;
+pub(crate) fn run_serve(rt: &HostRuntime, matches: &ArgMatches<'_>) -> Result<(), Failure> {
+    let options = ServeOptions::of(rt.alloc(), matches)?;
     let Ok(base) = Text::copy_of(rt.alloc(), options.base) else {
-        return Err(CommandFault::Run(RunFault::NoMemory));
+        return Err(Failure::from(CommandFault::Run(RunFault::NoMemory)));
     };
     let Ok(start) = Instant::now(rt) else {
-        return Err(CommandFault::CannotServe);
+        return Err(Failure::from(CommandFault::CannotServe));
     };
     let files = serve_files_at(rt, &options)?;
     let audit_log = audit_log_of(rt, &options)?;
     let Ok(routes) = Routes::new(rt.alloc()) else {
-        return Err(CommandFault::Run(RunFault::NoMemory));
+        return Err(Failure::from(CommandFault::Run(RunFault::NoMemory)));
     };
     let serving = Serving {
         rt,
