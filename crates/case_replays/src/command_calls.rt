@@ -1,17 +1,20 @@
 //! The calls of `scim_command`.
 use crate::audit_options::audit_text;
+use crate::token_calls::token_lines;
 use case_values::{Case, CaseFault, between, joined, named, said, shown};
 use clap::ArgMatches;
 use scim_audit::leaf_path;
 use scim_cell::Id;
 use scim_command::{
     ArchiveCause, ArchiveOptions, AuditOptions, CheckOptions, CommandFault, DatabaseFault,
-    ExplainOptions, ExportOptions, ImportOptions, OnceOptions, ReplayOptions, RunFault,
-    ServeOptions, Setting, check, command, once,
+    ExplainOptions, ExportOptions, FaultyLine, ImportOptions, OnceOptions, ReplayOptions, RunFault,
+    ServeOptions, Setting, check, command, once, option_detail, read_events,
 };
+use scim_event_details::event_detail;
+use scim_filter_grammar::Meant;
 use scim_samples::{BASE, POLICY, USERS};
 use scim_schema::Leaf;
-use scim_text::{print_moment, push};
+use scim_text::{Failed, print_moment, push};
 use std::alloc::Global;
 
 /// Runs `once`. Returns the argument `before`, followed by the output and, if the command failed, the text of
@@ -33,9 +36,10 @@ pub(crate) fn once_call(case: &Case<'_>) -> Result<String, CaseFault> {
 /// error.
 pub(crate) fn check_call(case: &Case<'_>) -> Result<String, CaseFault> {
     let policy = case.text_or("policy", POLICY);
+    let tokens = case.text("tokens").ok();
     let is_verbose = case.has("verbose");
     let mut written = case.text_or("before", "").as_bytes().to_vec(case.alloc)?;
-    let done = check(case.alloc, policy, is_verbose, &mut written);
+    let done = check(case.alloc, policy, tokens, is_verbose, &mut written);
     end_text(case.alloc, written.as_slice(), done)
 }
 
@@ -53,7 +57,7 @@ pub(crate) fn end_text(
 }
 
 /// Returns the words of a command line, which are the strings in the list `words`.
-fn words(case: &Case<'_>) -> Result<Vec<String>, CaseFault> {
+pub(crate) fn words(case: &Case<'_>) -> Result<Vec<String>, CaseFault> {
     let mut words = Vec::new(case.alloc);
     for value in case.list("words") {
         if let Some(word) = value.as_str() {
@@ -89,9 +93,10 @@ enum CommandNamed {
     Import,
     Archive,
     Explain,
+    Token,
 }
 
-static COMMANDS: [(&str, CommandNamed); 9] = [
+static COMMANDS: [(&str, CommandNamed); 10] = [
     ("once", CommandNamed::Once),
     ("check", CommandNamed::Check),
     ("replay", CommandNamed::Replay),
@@ -101,6 +106,7 @@ static COMMANDS: [(&str, CommandNamed); 9] = [
     ("import", CommandNamed::Import),
     ("archive", CommandNamed::Archive),
     ("explain", CommandNamed::Explain),
+    ("token", CommandNamed::Token),
 ];
 
 fn matches_text(alloc: Global, matches: &ArgMatches<'_>) -> Result<String, CaseFault> {
@@ -124,6 +130,7 @@ fn command_text(alloc: Global, name: &str, matches: &ArgMatches<'_>) -> Result<S
         CommandNamed::Import => import_options(alloc, matches),
         CommandNamed::Archive => archive_options(alloc, matches),
         CommandNamed::Explain => explain_options(alloc, matches),
+        CommandNamed::Token => token_lines(alloc, Some(7), matches),
     }
 }
 
@@ -136,24 +143,29 @@ fn once_options(alloc: Global, matches: &ArgMatches<'_>) -> Result<String, CaseF
 
 fn check_options(alloc: Global, matches: &ArgMatches<'_>) -> Result<String, CaseFault> {
     match CheckOptions::of(matches) {
-        Ok(CheckOptions { policy, verbose }) => {
-            between(
-                alloc,
-                "policy ",
-                &policy,
-                if verbose {
-                    ", verbose true"
-                } else {
-                    ", verbose false"
-                },
-            )
-        }
+        Ok(options) => checked_text(alloc, &options),
         Err(fault) => line_and_status(alloc, &fault),
     }
 }
 
+fn checked_text(alloc: Global, options: &CheckOptions<'_>) -> Result<String, CaseFault> {
+    let tokens = match options.tokens {
+        Some(path) => joined(alloc, &[", tokens ", path])?,
+        None => said(alloc, "")?,
+    };
+    let verbose = if options.verbose {
+        ", verbose true"
+    } else {
+        ", verbose false"
+    };
+    joined(
+        alloc,
+        &["policy ", options.policy, tokens.as_str(), verbose],
+    )
+}
+
 fn replay_options(alloc: Global, matches: &ArgMatches<'_>) -> Result<String, CaseFault> {
-    match ReplayOptions::of(matches) {
+    match ReplayOptions::of(alloc, matches) {
         Ok(options) => {
             let words = [
                 "policy ",
@@ -174,7 +186,7 @@ fn replay_options(alloc: Global, matches: &ArgMatches<'_>) -> Result<String, Cas
 }
 
 fn serve_options(alloc: Global, matches: &ArgMatches<'_>) -> Result<String, CaseFault> {
-    match ServeOptions::of(matches) {
+    match ServeOptions::of(alloc, matches) {
         Ok(options) => served_text(alloc, &options),
         Err(fault) => line_and_status(alloc, &fault),
     }
@@ -236,7 +248,19 @@ fn export_options(alloc: Global, matches: &ArgMatches<'_>) -> Result<String, Cas
 
 fn import_options(alloc: Global, matches: &ArgMatches<'_>) -> Result<String, CaseFault> {
     match ImportOptions::of(matches) {
-        Ok(options) => joined(alloc, &["db ", options.database, ", users ", options.users]),
+        Ok(options) => {
+            let foreign = if options.is_foreign { ", foreign" } else { "" };
+            let merge = if options.merges { ", merge" } else { "" };
+            let words = [
+                "db ",
+                options.database,
+                ", users ",
+                options.users,
+                foreign,
+                merge,
+            ];
+            joined(alloc, &words)
+        }
         Err(fault) => line_and_status(alloc, &fault),
     }
 }
@@ -248,18 +272,56 @@ fn archive_options(alloc: Global, matches: &ArgMatches<'_>) -> Result<String, Ca
     }
 }
 
-/// Returns the leaf in the options of `explain`, or `all` if no leaf is given.
+/// Returns the fault of the events file `events`, and below it which part of its line isn't valid; or `none`.
+pub(crate) fn event_detail_call(case: &Case<'_>) -> Result<String, CaseFault> {
+    let events = case.text("events")?;
+    let line = match read_events(case.alloc, events) {
+        Ok(_) => return said(case.alloc, "none"),
+        Err(Failed::Because(FaultyLine(line))) => line,
+        Err(Failed::NoMemory) => return Err(CaseFault::NoMemory),
+    };
+    let fault = shown(case.alloc, &RunFault::Events(line))?;
+    match event_detail(case.alloc, events, line)? {
+        Some(detail) => {
+            let detail = shown(case.alloc, &detail)?;
+            joined(case.alloc, &[fault.as_str(), "\n  ", detail.as_str()])
+        }
+        None => Ok(fault),
+    }
+}
+
+/// Returns the path in the options of `explain`, or `all` if no path is given.
 fn explain_options(alloc: Global, matches: &ArgMatches<'_>) -> Result<String, CaseFault> {
     match ExplainOptions::of(matches) {
-        Ok(options) => leaf_text(alloc, options.leaf),
+        Ok(options) => path_text(alloc, options.path),
         Err(fault) => line_and_status(alloc, &fault),
     }
 }
 
-fn leaf_text(alloc: Global, leaf: Option<Leaf>) -> Result<String, CaseFault> {
-    match leaf {
-        Some(leaf) => Ok(leaf_path(alloc, leaf)?),
+fn path_text(alloc: Global, path: Option<Meant>) -> Result<String, CaseFault> {
+    match path {
+        Some(Meant::Attribute(attribute)) => Ok(leaf_path(alloc, Leaf::simple(attribute))?),
+        Some(Meant::SubAttribute(attribute, sub_attribute)) => {
+            Ok(leaf_path(alloc, Leaf::of(attribute, sub_attribute))?)
+        }
+        Some(Meant::Nothing) => said(alloc, "nothing"),
         None => said(alloc, "all"),
+    }
+}
+
+/// Returns the reason why the options of the command line in the list `words` are invalid, or `none`.
+pub(crate) fn option_detail_call(case: &Case<'_>) -> Result<String, CaseFault> {
+    let words = words(case)?;
+    let command = command(case.alloc)?;
+    let Ok(matches) = command.try_get_matches_from(words.as_slice()) else {
+        return said(case.alloc, "no command");
+    };
+    let Some((_, matches)) = matches.subcommand() else {
+        return said(case.alloc, "no command");
+    };
+    match option_detail(case.alloc, matches)? {
+        Some(detail) => shown(case.alloc, &detail),
+        None => said(case.alloc, "none"),
     }
 }
 
@@ -392,7 +454,7 @@ fn damaged(case: &Case<'_>) -> Result<CommandFault, CaseFault> {
     }
 }
 
-fn line_and_status(alloc: Global, fault: &CommandFault) -> Result<String, CaseFault> {
+pub(crate) fn line_and_status(alloc: Global, fault: &CommandFault) -> Result<String, CaseFault> {
     let line = shown(alloc, fault)?;
     let status = between(alloc, ", exit ", &fault.exit_status(), "")?;
     joined(alloc, &[line.as_str(), status.as_str()])

@@ -10,6 +10,7 @@ mod events;
 mod pairs;
 mod recordings;
 mod streams;
+mod token_calls;
 
 use case_values::{Case, CaseFault, named};
 pub use events::answered;
@@ -24,9 +25,12 @@ enum Call {
     Check,
     CommandLine,
     FaultLine,
+    OptionDetail,
+    NoRandomBytes,
+    EventDetail,
 }
 
-static CALLS: [(&str, Call); 7] = [
+static CALLS: [(&str, Call); 10] = [
     ("replay", Call::Replay),
     ("every_cut", Call::EveryCut),
     ("serve_stream", Call::ServeStream),
@@ -34,6 +38,9 @@ static CALLS: [(&str, Call); 7] = [
     ("check", Call::Check),
     ("command_line", Call::CommandLine),
     ("fault_line", Call::FaultLine),
+    ("option_detail", Call::OptionDetail),
+    ("no_random_bytes", Call::NoRandomBytes),
+    ("event_detail", Call::EventDetail),
 ];
 
 /// Returns the result of the case's call, or `None` if it isn't a call of this crate.
@@ -47,5 +54,8 @@ pub fn answer(case: &Case<'_>, call: &str) -> Option<Result<String, CaseFault>> 
         Call::Check => command_calls::check_call(case),
         Call::CommandLine => command_calls::command_line(case),
         Call::FaultLine => command_calls::fault_line(case),
+        Call::OptionDetail => command_calls::option_detail_call(case),
+        Call::NoRandomBytes => token_calls::no_random_bytes(case),
+        Call::EventDetail => command_calls::event_detail_call(case),
     })
 }

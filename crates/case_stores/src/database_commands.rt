@@ -13,6 +13,7 @@ use scim_command::{CommandFault, ExportOptions};
 use scim_command_database::{
     DatabaseWork, Question, archive_databases, explain, export, import, print_audit,
 };
+use scim_explain_paths::path_named;
 use scim_policy::Policy;
 use scim_samples::{BASE, USERS};
 use scim_store::SqlShelf;
@@ -30,8 +31,8 @@ pub enum DatabaseCommand {
     Import,
     /// Archives the database.
     Archive,
-    /// Explains the decision of the policy on the arguments `client`, `op`, `kind`, `id` and `leaf`, or the
-    /// decisions on all leaves if `leaf` isn't given.
+    /// Explains the decisions of the policy on the arguments `client`, `op`, `kind`, `id` and `path`, or those on all
+    /// leaves if `path` isn't given.
     Explain,
     /// Exports the users file of the database, and returns how the program ends instead of the output.
     Ending,
@@ -264,7 +265,7 @@ fn answer_text<S: Alter + Drop>(
 }
 
 /// Returns the question that a case asks `explain`, or `None` if the argument `id` isn't an id. An invalid
-/// `leaf` counts as not given.
+/// `path` counts as not given.
 fn question_of<'c>(case: &'c Case<'_>) -> Option<Question<'c>> {
     let Ok(text) = case.text("id") else {
         return None;
@@ -272,15 +273,11 @@ fn question_of<'c>(case: &'c Case<'_>) -> Option<Question<'c>> {
     let Some(id) = Id::read(text) else {
         return None;
     };
-    let leaf = match case.leaf("leaf") {
-        Ok(leaf) => Some(leaf),
-        Err(_) => None,
-    };
     Some(Question {
         client: case.text_or("client", "hr"),
         op: case.op(),
         kind: case.kind(),
         id,
-        leaf,
+        path: path_named(case.kind(), case.text_or("path", "")),
     })
 }

@@ -78,10 +78,22 @@ impl Calls for AllCalls<'_> {
         if let Some(found) = case_policies::answer(case, call) {
             return found;
         }
+        if let Some(found) = case_policy_warnings::answer(case, call) {
+            return found;
+        }
         if let Some(found) = case_messages::answer(case, call) {
             return found;
         }
         if let Some(found) = case_stores::answer(case, call) {
+            return found;
+        }
+        if let Some(found) = case_fault_details::answer(case, call) {
+            return found;
+        }
+        if let Some(found) = case_imports::answer(case, call) {
+            return found;
+        }
+        if let Some(found) = case_store_causes::answer(case, call) {
             return found;
         }
         if let Some(found) = case_replays::answer(case, call) {
