@@ -35,9 +35,12 @@ expect "UPDATE resource SET document = '{}' WHERE id = '${id}0b'" "scimd: databa
 expect "DELETE FROM taken WHERE id = '${id}0c'" "scimd: database: damaged ${id}0c"
 expect "DELETE FROM member WHERE group_id = '${id}aa'" "scimd: database: damaged ${id}aa"
 expect "DELETE FROM taken WHERE id = '${id}0c'; DELETE FROM member" "scimd: database: damaged ${id}0c"
-expect "$row" 'scimd: database: cannot be used'
+expect "$row" 'scimd: database: cannot be used
+  the audit has no row 2, but later ones'
 expect "UPDATE setting SET number = 9" 'scimd: database: wrong version'
 expect "DELETE FROM setting" 'scimd: database: wrong version'
-expect "CREATE TABLE note (title TEXT)" 'scimd: the table "note" isn'\''t one of this server'\''s
-scimd: database: cannot be used'
+expect "CREATE TABLE note (title TEXT)" 'scimd: database: cannot be used
+  the table "note" isn'\''t one of this server'\''s'
+expect "INSERT INTO setting VALUES ('other', 1)" 'scimd: database: cannot be used
+  the table "setting" has further rows'
 echo "damage: all as expected"

@@ -99,9 +99,9 @@ class Source:
         must(not parts(folder), f"{parts(folder)} are left over")
 
     def refuse(self, folder, told, **how):
-        """Archives where that is refused with these words, and checks that nothing is lost by it."""
-        found = archive(self.program, folder, **how)
-        must(found == (1, told), f"{how}: expected {told!r}, found {found}")
+        """Archives where that is refused with these words on the first line, and checks that nothing is lost by it."""
+        status, found = archive(self.program, folder, **how)
+        must((status, found.split("\n")[0]) == (1, told), f"{how}: expected {told!r}, found {found!r}")
 
 
 def copied(folder, to):

@@ -217,7 +217,7 @@ def options(program, folder):
     port, tokens = words.index("--admin-port"), words.index("--admin-tokens")
     for left_out in (port, tokens):
         told = command(program, *words[:left_out], *words[left_out + 2:], status=2)
-        expect("one option of the port", told, b"scimd: bad option\n")
+        expect("one option of the port", told.split(b"\n")[0], b"scimd: bad option")
     clients = os.path.join(folder, "tokens")
     told = command(program, *words[:tokens + 1], clients, *words[tokens + 2:], status=1)
     expect("the clients' tokens as those of administrators", told, b"scimd: admin tokens: line 1: token of a client\n")
