@@ -83,7 +83,7 @@ def failing_at_calls(source, counts):
         status, said = archive(source.program, folder, under=injecting(call, f"error={error}:when={number}"))
         states.append(source.state(folder))
         where = f"{call} {number}: status {status}, {said!r}, {states[-1]}"
-        must(status == 0 and said == "" or status == 1 and re.fullmatch("scimd: [^\n]+", said), where)
+        must(status == 0 and said == "" or status == 1 and re.fullmatch("scimd: [^\n]+(\n  [^\n]+)?", said), where)
         must(status == 1 or states[-1] == "done", where)
         must(call == "unlink" or not parts(folder), f"{where}: {parts(folder)} are left over")
         source.end(folder, states[-1])
